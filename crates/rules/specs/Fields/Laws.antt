@@ -1,0 +1,224 @@
+-- Laws of fields: little-endian numbers of any width, what writing leaves, and the turns of loops that read and write.
+use Prim.Native.Nat.{ℕ, zero, suc, _+_, _-_, _*_, _/_, _%_, _^_, _≤_, _<_}
+use mathlib.Core.Path.{_≡_, refl, sym, ap, _∙_}
+use mathlib.Core.List.{List, [], _∷_, _++_, append-assoc, append-nil}
+use native.Mathlib.Numerals.{add-one, one-add}
+use native.Mathlib.Omega.{arith}
+use native.Mathlib.Nat.{add-zero, zero-add, add-assoc, add-suc, mul-suc, div-add-mod'}
+use lib.ListN.{replicate, length, getD, take, drop, set, length-append, length-take, length-drop, length-set, take-append-drop, List·getD-append, List·getD-eq-default}
+use lib.Seq.{drop-cons, drop-append-add, drop-drop, take-at, drop-length, take-suc-set, drop-set-lt, getD-append-add, getD-take, getD-drop, length-take-le, getD-append-seam, append-snoc}
+use borrow.Rule.Slice.PartMut.{putMid, post-is}
+use lib.Pow.{pow-add}
+use Rattle.rules.specs.Fields.{le, leBytes, splice}
+
+-- ---- le
+
+pub le-zero : (s : List ℕ) (at : ℕ) → le 0 s at ≡ 0
+unfolding le
+le-zero s at = refl
+
+pub le-suc : (w : ℕ) (s : List ℕ) (at : ℕ) → le (suc w) s at ≡ getD s at 0 + 256 * le w s (at + 1)
+unfolding le
+le-suc w s at = refl
+
+pub le-1 : (s : List ℕ) (at : ℕ) → le 1 s at ≡ getD s at 0
+unfolding le
+le-1 s at = omega arith
+
+pub pow-step : (w : ℕ) → 2 ^ (8 * suc w) ≡ 256 * 2 ^ (8 * w)
+pow-step w = ap (λ (k : ℕ). 2 ^ k) (omega arith) ∙ pow-add 2 8 (8 * w)
+
+-- a number of w bytes is below 2 ^ (8 w)
+pub le-lt : (w : ℕ) (s : List ℕ) (at : ℕ) → ((i : ℕ) → getD s i 0 < 256) → le w s at < 2 ^ (8 * w)
+unfolding le
+le-lt zero s at h = omega arith
+le-lt (suc w) s at h = omega (arith, h at, le-lt w s (at + 1) h, pow-step w)
+
+-- it is what its bytes are
+pub le-ext : (w : ℕ) (s t : List ℕ) (at at′ : ℕ) → ((i : ℕ) → i < w → getD s (at + i) 0 ≡ getD t (at′ + i) 0) → le w s at ≡ le w t at′
+unfolding le
+le-ext zero s t at at′ h = refl
+le-ext (suc w) s t at at′ h =
+    let h₀ : getD s at 0 ≡ getD t at′ 0 = simp add-zero at (h 0 (omega arith)) in
+    let e : le w s (at + 1) ≡ le w t (at′ + 1) = le-ext w s t (at + 1) (at′ + 1) (λ i hi. simp add-assoc (h (1 + i) (omega arith))) in
+    omega arith
+
+-- ---- leBytes
+
+pub length-leBytes : (w v : ℕ) → length (leBytes w v) ≡ w
+unfolding leBytes
+length-leBytes zero v = refl
+length-leBytes (suc w) v = ap suc (length-leBytes w (v / 256))
+
+pub leBytes-zero : (v : ℕ) → leBytes 0 v ≡ []
+unfolding leBytes
+leBytes-zero v = refl
+
+pub leBytes-suc : (w v : ℕ) → leBytes (suc w) v ≡ v % 256 ∷ leBytes w (v / 256)
+unfolding leBytes
+leBytes-suc w v = refl
+
+-- ---- splice
+
+pub splice-nil : (s : List ℕ) (at : ℕ) → splice s at [] ≡ s
+unfolding splice
+splice-nil s at = rw add-zero (take-append-drop at s)
+
+-- a turn of a loop that writes: one store, and the rest from the next place on
+pub splice-cons : (s : List ℕ) (at b : ℕ) (bs : List ℕ) → at < length s → splice s at (b ∷ bs) ≡ splice (set s at b) (at + 1) bs
+unfolding splice
+splice-cons s at b bs h =
+    let e : at + suc (length bs) ≡ at + 1 + length bs = omega arith in
+    let d : drop (at + 1 + length bs) (set s at b) ≡ drop (at + 1 + length bs) s = drop-set-lt (at + 1 + length bs) s at b (omega arith) in
+    let t : take (at + 1) (set s at b) ≡ take at s ++ (b ∷ []) = rw add-one (take-suc-set s at b h) in
+    rw (e, d, t) (sym (append-assoc (take at s) (b ∷ []) (bs ++ drop (at + 1 + length bs) s)))
+
+module _ (s : List ℕ) (at : ℕ) (bs : List ℕ) (fits : at + length bs ≤ length s) where
+  pub length-splice : length (splice s at bs) ≡ length s
+  unfolding splice
+  length-splice = simp (length-append, length-take, length-drop) (omega arith)
+
+  -- before, within and after what was written
+  pub getD-splice-before : (i : ℕ) → i < at → getD (splice s at bs) i 0 ≡ getD s i 0
+  unfolding splice
+  getD-splice-before i h =
+      let l : length (take at s) ≡ at = length-take-le at s (omega arith) in
+      List·getD-append (take at s) (bs ++ drop (at + length bs) s) 0 i (omega arith) ∙ getD-take at s i 0 h
+
+  pub getD-splice-in : (i : ℕ) → i < length bs → getD (splice s at bs) (at + i) 0 ≡ getD bs i 0
+  unfolding splice
+  getD-splice-in i h =
+      let l : length (take at s) ≡ at = length-take-le at s (omega arith) in
+      let e : getD (take at s ++ (bs ++ drop (at + length bs) s)) (length (take at s) + i) 0 ≡ getD (bs ++ drop (at + length bs) s) i 0 = getD-append-add (take at s) (bs ++ drop (at + length bs) s) i 0 in
+      (rw l at e) ∙ List·getD-append bs (drop (at + length bs) s) 0 i h
+
+  pub getD-splice-after : (i : ℕ) → at + length bs ≤ i → getD (splice s at bs) i 0 ≡ getD s i 0
+  unfolding splice
+  getD-splice-after i h =
+      let l : length (take at s) ≡ at = length-take-le at s (omega arith) in
+      let j : ℕ = i - (at + length bs) in
+      let ei : i ≡ length (take at s) + (length bs + j) = omega arith in
+      let ek : at + length bs + j ≡ i = omega arith in
+      ap (λ (k : ℕ). getD (take at s ++ (bs ++ drop (at + length bs) s)) k 0) ei
+      ∙ getD-append-add (take at s) (bs ++ drop (at + length bs) s) (length bs + j) 0
+      ∙ getD-append-add bs (drop (at + length bs) s) j 0
+      ∙ getD-drop (at + length bs) s j 0
+      ∙ ap (λ (k : ℕ). getD s k 0) ek
+
+  -- a number that lies before or after what was written reads as it did
+  pub le-splice-before : (w a : ℕ) → a + w ≤ at → le w (splice s at bs) a ≡ le w s a
+  le-splice-before w a h = le-ext w (splice s at bs) s a a (λ i hi. getD-splice-before (a + i) (omega arith))
+
+  pub le-splice-after : (w a : ℕ) → at + length bs ≤ a → le w (splice s at bs) a ≡ le w s a
+  le-splice-after w a h = le-ext w (splice s at bs) s a a (λ i hi. getD-splice-after (a + i) (omega arith))
+
+  -- and one that was written reads as what was written
+  pub le-splice-in : le (length bs) (splice s at bs) at ≡ le (length bs) bs 0
+  le-splice-in = le-ext (length bs) (splice s at bs) bs at 0 (λ i hi. getD-splice-in i hi ∙ ap (λ (k : ℕ). getD bs k 0) (omega arith))
+
+-- a number in a list that begins with one byte more
+le-shift : (w b : ℕ) (bs : List ℕ) → le w (b ∷ bs) 1 ≡ le w bs 0
+le-shift w b bs = le-ext w (b ∷ bs) bs 1 0 (λ i hi. rw (one-add, zero-add))
+
+-- what w bytes of v say: v, where it fits them
+pub le-leBytes : (w v : ℕ) → v < 2 ^ (8 * w) → le w (leBytes w v) 0 ≡ v
+unfolding le leBytes
+le-leBytes zero v h = omega arith
+le-leBytes (suc w) v h =
+    let r : le w (leBytes w (v / 256)) 0 ≡ v / 256 = le-leBytes w (v / 256) (omega (arith, pow-step w)) in
+    omega (arith, le-shift w (v % 256) (leBytes w (v / 256)))
+
+-- THE ROUND TRIP
+pub le-put : (w v : ℕ) (s : List ℕ) (at : ℕ) → at + w ≤ length s → v < 2 ^ (8 * w) → le w (splice s at (leBytes w v)) at ≡ v
+le-put w v s at h hv =
+    let e : le (length (leBytes w v)) (splice s at (leBytes w v)) at ≡ le (length (leBytes w v)) (leBytes w v) 0 =
+    le-splice-in s at (leBytes w v) (rw length-leBytes h) in
+    (rw length-leBytes at e) ∙ le-leBytes w v hv
+
+-- ---- turns of loops
+
+-- reading from the highest byte, at e, down: from o to o - 1
+pub le-down : (e o : ℕ) (s : List ℕ) → 0 < o → o ≤ e → le (e - (o - 1)) s (o - 1) ≡ getD s (o - 1) 0 + 256 * le (e - o) s o
+le-down e o s h k =
+    let ek : e - (o - 1) ≡ suc (e - o) = omega arith in
+    let eo : o - 1 + 1 ≡ o = omega arith in
+    rw (ek, le-suc, eo)
+
+-- writing n bytes of x from o up: one store, and then n - 1 bytes of x / 256 from o + 1
+pub put-up : (s : List ℕ) (o n x : ℕ) → 0 < n → o < length s → splice (set s o (x % 256)) (o + 1) (leBytes (n - 1) (x / 256)) ≡ splice s o (leBytes n x)
+put-up s o n x h k =
+    let en : n ≡ suc (n - 1) = omega arith in
+    sym (ap (λ (m : ℕ). splice s o (leBytes m x)) en ∙ ap (splice s o) (leBytes-suc (n - 1) x) ∙ splice-cons s o (x % 256) (leBytes (n - 1) (x / 256)) k)
+
+pub pow-down : (e o : ℕ) → 0 < o → o ≤ e → 2 ^ (8 * (e - (o - 1))) ≡ 256 * 2 ^ (8 * (e - o))
+pow-down e o h k = let ek : e - (o - 1) ≡ suc (e - o) = omega arith in rw ek (pow-step (e - o))
+
+pub le-none : (e : ℕ) (s : List ℕ) → 0 ≡ le (e - e) s e
+le-none e s = let z : e - e ≡ 0 = omega arith in rw (z, le-zero)
+
+-- eight bytes in a row, for straight-line code
+pub le-8 : (s : List ℕ) (at : ℕ) → le 8 s at
+    ≡ getD s at 0 + 256 * getD s (at + 1) 0 + 65536 * getD s (at + 2) 0 + 16777216 * getD s (at + 3) 0
+    + 4294967296 * getD s (at + 4) 0 + 1099511627776 * getD s (at + 5) 0 + 281474976710656 * getD s (at + 6) 0 + 72057594037927936 * getD s (at + 7) 0
+unfolding le
+le-8 s at = simp add-assoc (omega arith)
+
+-- ---- writers
+
+-- a turn of a loop that writes the list bs from at on, at its element i
+pub splice-turn : (s : List ℕ) (at i : ℕ) (bs : List ℕ) → at + i < length s → i < length bs
+    → splice (set s (at + i) (getD bs i 0)) (at + (i + 1)) (drop (i + 1) bs) ≡ splice s (at + i) (drop i bs)
+splice-turn s at i bs h k =
+    sym (ap (splice s (at + i)) (drop-cons bs i 0 k)
+    ∙ splice-cons s (at + i) (getD bs i 0) (drop (suc i) bs) h
+    ∙ rw (add-assoc at i 1, ← add-one i))
+
+-- the same, with nothing before
+pub splice-turn₀ : (s : List ℕ) (i : ℕ) (bs : List ℕ) → i < length s → i < length bs
+    → splice (set s i (getD bs i 0)) (i + 1) (drop (i + 1) bs) ≡ splice s i (drop i bs)
+splice-turn₀ s i bs h k =
+    sym (ap (splice s i) (drop-cons bs i 0 k) ∙ splice-cons s i (getD bs i 0) (drop (suc i) bs) h ∙ rw (← add-one i))
+
+-- a turn of a loop that writes n times the same
+pub fill-turn : (s : List ℕ) (i n v : ℕ) → i < length s → i < n
+    → splice (set s i v) (i + 1) (replicate (n - (i + 1)) v) ≡ splice s i (replicate (n - i) v)
+fill-turn s i n v h k =
+    let e : n - i ≡ suc (n - (i + 1)) = omega arith in
+    sym (ap (λ (m : ℕ). splice s i (replicate m v)) e ∙ splice-cons s i v (replicate (n - (i + 1)) v) h)
+
+-- two writings side by side are one
+pub splice-splice : (s : List ℕ) (at : ℕ) (xs ys : List ℕ) → at + (length xs + length ys) ≤ length s
+    → splice (splice s at xs) (at + length xs) ys ≡ splice s at (xs ++ ys)
+unfolding splice
+splice-splice s at xs ys h =
+    let l : length (take at s) ≡ at = length-take-le at s (omega arith) in
+    let t : length (take at s ++ xs) ≡ at + length xs = length-append (take at s) xs ∙ rw l in
+    let a : take at s ++ (xs ++ drop (at + length xs) s) ≡ (take at s ++ xs) ++ drop (at + length xs) s = sym (append-assoc (take at s) xs (drop (at + length xs) s)) in
+    let d : drop (at + length xs + length ys) ((take at s ++ xs) ++ drop (at + length xs) s) ≡ drop (at + (length xs + length ys)) s =
+    ap (λ (k : ℕ). drop (k + length ys) ((take at s ++ xs) ++ drop (at + length xs) s)) (sym t)
+    ∙ drop-append-add (take at s ++ xs) (drop (at + length xs) s) (length ys)
+    ∙ drop-drop (length ys) (at + length xs) s
+    ∙ rw add-assoc in
+    rw (a, take-at (take at s ++ xs) (drop (at + length xs) s) (at + length xs) t, d, length-append xs ys)
+    (append-assoc (take at s) xs (ys ++ drop (at + (length xs + length ys)) s) ∙ ap (λ (r : List ℕ). take at s ++ r) (sym (append-assoc xs ys (drop (at + (length xs + length ys)) s))))
+
+-- a writing of the whole
+pub splice-all : (s bs : List ℕ) → length bs ≡ length s → splice s 0 bs ≡ bs
+unfolding splice
+splice-all s bs h = let z : 0 + length bs ≡ length s = omega arith in rw (z, drop-length, append-nil)
+
+-- `&mut s[a..e]` was lent and has come back as ys: what the logic has of the whole is a splice
+pub lent-back : (s : List ℕ) (a e : ℕ) (ys : List ℕ) → a ≤ e → e ≤ length s → length ys ≡ e - a → putMid a (e - a) s ys ≡ splice s a ys
+unfolding splice
+lent-back s a e ys h k l = let z : a + length ys ≡ e = omega arith in rw (post-is a e s h, z)
+
+-- the frame laws of a written number, by its width
+module _ (w v : ℕ) (s : List ℕ) (at : ℕ) (fits : at + w ≤ length s) where
+  pub length-put : length (splice s at (leBytes w v)) ≡ length s
+  length-put = length-splice s at (leBytes w v) (rw length-leBytes fits)
+
+  pub le-put-before : (u a : ℕ) → a + u ≤ at → le u (splice s at (leBytes w v)) a ≡ le u s a
+  le-put-before u a h = le-splice-before s at (leBytes w v) (rw length-leBytes fits) u a h
+
+  pub le-put-after : (u a : ℕ) → at + w ≤ a → le u (splice s at (leBytes w v)) a ≡ le u s a
+  le-put-after u a h = le-splice-after s at (leBytes w v) (rw length-leBytes fits) u a (rw length-leBytes h)

@@ -1,0 +1,72 @@
+-- 01, "Index area": which bytes, paths and volume names are allowed.
+use Prim.Native.Nat.{ℕ, zero, suc, _+_, _-_, _/_}
+use mathlib.Core.Bool.{Bool, true, false, _&&_, _||_, not}
+use mathlib.Core.List.{List, [], _∷_, _++_, map}
+use mathlib.Core.Option.{Option, none, some}
+use lib.ListN.{length}
+use lib.Dec.{eqb, ltb, leb}
+use Rattle.rules.specs.Lists.{pick, all, any, eqList}
+
+abbrev pub slash : ℕ
+slash = 0x2F
+
+abbrev pub dot : ℕ
+dot = 0x2E
+
+-- " * : < > ? and the backslash
+unfoldable pub isMark : ℕ → Bool
+isMark b = any (eqb b) (0x22 ∷ 0x2A ∷ 0x3A ∷ 0x3C ∷ 0x3E ∷ 0x3F ∷ 0x5C ∷ [])
+
+-- not below 0x20, not from 0x7F to 0xA0, and no mark
+unfoldable pub byteGood : ℕ → Bool
+byteGood b = leb 0x20 b && not (leb 0x7F b && leb b 0xA0) && leb b 0xFF && not (isMark b)
+
+-- THE NAME RULE, for every kind of name
+unfoldable pub textGood : List ℕ → Bool
+textGood bs = all byteGood bs
+
+-- ---- paths
+-- one more byte in front of the first part
+unfoldable pub intoFirst : ℕ → List (List ℕ) → List (List ℕ)
+intoFirst b [] = (b ∷ []) ∷ []
+intoFirst b (p ∷ ps) = (b ∷ p) ∷ ps
+
+-- the parts between slashes: one more than there are slashes
+unfoldable pub parts : List ℕ → List (List ℕ)
+parts [] = [] ∷ []
+parts (b ∷ bs) = pick (eqb b slash) ([] ∷ parts bs) (intoFirst b (parts bs))
+
+-- a part has one byte or more, and is neither `.` nor `..`
+unfoldable pub partGood : List ℕ → Bool
+partGood p = not (eqList p []) && not (eqList p (dot ∷ [])) && not (eqList p (dot ∷ dot ∷ []))
+
+-- parts joined by single slashes, none first or last
+unfoldable pub pathGood : List ℕ → Bool
+pathGood p = textGood p && all partGood (parts p)
+
+-- a path to create has at most 285 bytes
+unfoldable pub newPathGood : List ℕ → Bool
+newPathGood p = pathGood p && leb (length p) 285
+
+-- a volume name has at most 51 bytes and no slash, and may be empty
+unfoldable pub volumeTextGood : List ℕ → Bool
+volumeTextGood n = textGood n && not (any (eqb slash) n)
+
+unfoldable pub volumeNameGood : List ℕ → Bool
+volumeNameGood n = volumeTextGood n && leb (length n) 51
+
+-- ---- the paths above a path
+unfoldable pub leadIf : Bool → List (List ℕ) → List (List ℕ)
+leadIf true ps = [] ∷ ps
+leadIf false ps = ps
+
+-- its proper leading paths, the shortest first: what stands before each slash
+unfoldable pub leading : List ℕ → List (List ℕ)
+leading [] = []
+leading (b ∷ bs) = leadIf (eqb b slash) (map (λ p. b ∷ p) (leading bs))
+
+-- the path begins with `above` and a slash
+unfoldable pub isBelow : List ℕ → List ℕ → Bool
+isBelow above [] = false
+isBelow [] (b ∷ bs) = eqb b slash
+isBelow (a ∷ as′) (b ∷ bs) = eqb a b && isBelow as′ bs

@@ -1,0 +1,46 @@
+-- 01, "Index area": live entries, their paths and their directories.
+use Prim.Native.Nat.{ℕ, _+_}
+use mathlib.Core.Bool.{Bool, true, false, _&&_, _||_, not}
+use mathlib.Core.List.{List, [], _∷_}
+use mathlib.Core.Option.{Option, none, some}
+use lib.Dec.{eqb, leb}
+use Rattle.rules.specs.Lists.{all, any, everyTwo, first, only, eqList}
+use Rattle.rules.specs.Names.{leading, isBelow}
+use Rattle.rules.specs.Index.{Entry, liveType, typeDirectory}
+
+unfoldable pub isLive : Entry → Bool
+isLive e = liveType (e .kind)
+
+unfoldable pub liveAt : List ℕ → Entry → Bool
+liveAt p e = isLive e && eqList (e .path) p
+
+-- the live entry of a path
+unfoldable pub lookup : List ℕ → List Entry → Option Entry
+lookup p es = first (liveAt p) es
+
+unfoldable pub isDirectoryAt : List ℕ → Entry → Bool
+isDirectoryAt p e = eqb (e .kind) typeDirectory && eqList (e .path) p
+
+-- a live directory has this path
+unfoldable pub directoryLive : List Entry → List ℕ → Bool
+directoryLive es p = any (isDirectoryAt p) es
+
+-- every proper leading path is a live directory
+unfoldable pub directoriesLive : List Entry → List ℕ → Bool
+directoriesLive es p = all (directoryLive es) (leading p)
+
+-- no two live entries have one path
+unfoldable pub pathsDiffer : Entry → Entry → Bool
+pathsDiffer e f = not (isLive e && isLive f && eqList (e .path) (f .path))
+
+-- refusal 8 is for paths that are not sound
+unfoldable pub pathsSound : List Entry → Bool
+pathsSound es = everyTwo pathsDiffer es && all (λ e. not (isLive e) || directoriesLive es (e .path)) es
+
+-- a live entry lies below the path
+unfoldable pub anyBelow : List ℕ → List Entry → Bool
+anyBelow p es = any (λ e. isLive e && isBelow p (e .path)) es
+
+-- the live entry with the lowest first slot not below k. Entries stand in slot order.
+unfoldable pub nextLive : ℕ → List Entry → Option Entry
+nextLive k es = first (λ e. isLive e && leb k (e .slot)) es

@@ -1,0 +1,183 @@
+-- 01, "The calls": format, create, delete and reclaim. They give no number but the refusal.
+use Prim.Native.Nat.{ℕ, zero, suc, _+_, _-_, _*_, _/_}
+use mathlib.Core.Bool.{Bool, true, false, _&&_, not}
+use mathlib.Core.List.{List, [], _∷_, _++_}
+use mathlib.Core.Option.{Option, none, some}
+use lib.ListN.{length, drop, take}
+use lib.Dec.{eqb, leb}
+use lib.IntN.{ℤ}
+use Rattle.rules.specs.Lists.{pick, only, firstIf, padded, largest}
+use Rattle.rules.specs.Fields.{splice, stampBytes}
+use Rattle.rules.specs.SuperBlock.{Geometry, blockBytes, blockLength, ceilingBlock, dataEnd, fieldOf, geometryGood, lengthGood, growIndex, extendData, trimData, restamp, superBlockBytes, superBlockAt, putSizes, version10}
+use Rattle.rules.specs.Names.{pathGood, newPathGood, volumeNameGood, leading}
+use Rattle.rules.specs.Index.{Entry, Item, unused, entry, fault, fileType, deletedType, typeFile, typeDirectory, typeDeletedFile, typeDeletedDirectory, slotBytes, stampAt, slotAt, markerBytes, identifierBytes, unusedBytes, continuing, runBytes}
+use Rattle.rules.specs.Regions.{lowestFree, blocksNeeded}
+use Rattle.rules.specs.Paths.{lookup, directoryLive, anyBelow}
+use Rattle.rules.specs.Lists.{isSome}
+use Rattle.rules.specs.Refusals.{Verdict, accepted, need, needFound, Volume, entries}
+use Rattle.rules.specs.Outcome.{Outcome, done, conclude, onVolume}
+
+abbrev pub Written : Type 0
+Written = Outcome (Unit {0})
+
+abbrev pub onWritable : List ℕ → (Volume → Verdict Written) → Written
+onWritable s call = onVolume tt s [] (λ v. need (leb (v .geometry .version) version10) 9 (call v))
+
+-- ---- format
+-- the geometry that results; b follows from the bytes per block
+unfoldable pub freshGeometry : ℕ → ℕ → ℕ → ℤ → Geometry
+freshGeometry n b reserved stamp = record {
+  stamp = stamp;
+  dataBlocks = 0;
+  indexBytes = 128;
+  version = version10;
+  total = n / blockBytes b;
+  reserved = reserved;
+  blockField = b;
+}
+
+-- 0x194 to 0x1BD and the last 128 bytes: marker and identifier
+unfoldable pub formatted : List ℕ → Geometry → List ℕ → List ℕ
+formatted s g name =
+    splice (splice s superBlockAt (superBlockBytes g)) (length s - 128) (markerBytes ++ identifierBytes (g .stamp) name)
+
+unfoldable pub formatOf : List ℕ → ℕ → ℕ → List ℕ → ℤ → Written
+formatOf s bytesPerBlock reserved name stamp =
+    conclude tt s []
+    (need (lengthGood (length s)) 1
+    (needFound (fieldOf bytesPerBlock) 5 (λ b.
+    need (geometryGood (length s) (freshGeometry (length s) b reserved stamp)) 5
+    (need (volumeNameGood name) 10
+    (accepted (done tt (formatted s (freshGeometry (length s) b reserved stamp) name) []))))))
+
+-- ---- create
+pub data New : Type 0 where
+  newFile : List ℕ → New
+  newDirectory : New
+
+unfoldable pub kindOf : New → ℕ
+kindOf (newFile bytes) = typeFile
+kindOf newDirectory = typeDirectory
+
+unfoldable pub bytesOf : New → List ℕ
+bytesOf (newFile bytes) = bytes
+bytesOf newDirectory = []
+
+-- its directory, if any, is live: the longest of the leading paths
+unfoldable pub nearestLive : List Entry → List (List ℕ) → Bool
+nearestLive es [] = true
+nearestLive es (p ∷ []) = directoryLive es p
+nearestLive es (p ∷ q ∷ ps) = nearestLive es (q ∷ ps)
+
+-- the first n items are unused slots
+unfoldable pub startsUnused : ℕ → List Item → Bool
+startsUnused zero is = true
+startsUnused (suc n) [] = false
+startsUnused (suc n) (unused k ∷ is) = startsUnused n is
+startsUnused (suc n) (entry e ∷ is) = false
+startsUnused (suc n) (fault k ∷ is) = false
+
+unfoldable pub itemSlot : Item → ℕ
+itemSlot (unused k) = k
+itemSlot (entry e) = e .slot
+itemSlot (fault k) = k
+
+-- the lowest slot of n consecutive unused ones
+unfoldable pub lowestUnused : ℕ → List Item → Option ℕ
+lowestUnused n [] = none
+lowestUnused n (i ∷ is) = firstIf (startsUnused n (i ∷ is)) (itemSlot i) (lowestUnused n is)
+
+-- a place for a run: its first slot, and the geometry after any growth
+pub record Place : Type 0 where
+  pub slot : ℕ
+  pub geometry : Geometry
+
+-- the index may grow to 262,144 bytes and down to the data area's end
+unfoldable pub mayGrow : ℕ → Geometry → Bool
+mayGrow n g = leb (g .indexBytes) 262_144 && leb (dataEnd g) (ceilingBlock n g)
+
+unfoldable pub grownPlace : ℕ → Geometry → Option Place
+grownPlace n g = pick (mayGrow n g) (some (record { slot = 1; geometry = g })) none
+
+unfoldable pub placeFrom : ℕ → Geometry → ℕ → Option ℕ → Option Place
+placeFrom n g slots (some k) = some (record { slot = k; geometry = g })
+placeFrom n g slots none = grownPlace n (growIndex g (slotBytes * slots))
+
+-- the lowest unused slots that hold the run, else the index grows by it
+unfoldable pub placeRun : ℕ → Volume → ℕ → Option Place
+placeRun n v slots = placeFrom n (v .geometry) slots (lowestUnused slots (v .items))
+
+-- the start of a file's k blocks: 0 where it needs none, else the lowest free run below the ceiling block after any growth
+unfoldable pub placeFile : ℕ → Geometry → List Entry → ℕ → Option ℕ
+placeFile n g es zero = some 0
+placeFile n g es (suc k) = lowestFree es (suc k) (g .reserved) (ceilingBlock n g)
+
+-- the new entry
+unfoldable pub newEntry : New → List ℕ → ℤ → ℕ → ℕ → ℕ → Entry
+newEntry new path stamp slot start blocks = record {
+  kind = kindOf new;
+  slot = slot;
+  slots = 1 + continuing (kindOf new) (length path);
+  stamp = stamp;
+  start = start;
+  end = start + blocks;
+  length = length (bytesOf new);
+  path = path;
+}
+
+-- the start marker moves with the index's start
+unfoldable pub putMarker : List ℕ → Geometry → Geometry → List ℕ
+putMarker s old new = pick (eqb (old .indexBytes) (new .indexBytes)) s (splice s (slotAt s new 0) markerBytes)
+
+-- sizes, marker, run, and the blocks: the bytes, and zeros to the end of the last block
+unfoldable pub created : List ℕ → Geometry → Geometry → Entry → List ℕ → List ℕ
+created s old new e bytes =
+    splice (splice (putMarker (putSizes s new) old new) (slotAt s new (e .slot)) (runBytes e))
+    (e .start * blockLength new)
+    (padded bytes ((e .end - e .start) * blockLength new))
+
+unfoldable pub createOf : List ℕ → New → List ℕ → ℤ → Written
+createOf s new path stamp =
+    onWritable s (λ v.
+    let blocks : ℕ = blocksNeeded (blockLength (v .geometry)) (length (bytesOf new)) in
+    need (newPathGood path) 10
+    (need (not (isSome (lookup path (entries v)))) 12
+    (need (nearestLive (entries v) (leading path)) 13
+    (needFound (placeRun (length s) v (1 + continuing (kindOf new) (length path))) 15 (λ p.
+    needFound (placeFile (length s) (p .geometry) (entries v) blocks) 16 (λ start.
+    let e : Entry = newEntry new path stamp (p .slot) start blocks in
+    let g : Geometry = restamp (v .geometry) (extendData (p .geometry) (e .end)) stamp in
+    accepted (done tt (created s (v .geometry) g e (bytesOf new)) [])))))))
+
+-- ---- delete: type and stamp, nine bytes
+unfoldable pub deletedKind : ℕ → ℕ
+deletedKind t = pick (fileType t) typeDeletedFile typeDeletedDirectory
+
+unfoldable pub deleted : List ℕ → ℕ → Entry → ℤ → List ℕ
+deleted s at e stamp = splice (splice s at (deletedKind (e .kind) ∷ [])) (at + stampAt) (stampBytes stamp)
+
+unfoldable pub deleteOf : List ℕ → List ℕ → ℤ → Written
+deleteOf s path stamp =
+    onWritable s (λ v.
+    need (pathGood path) 10
+    (needFound (lookup path (entries v)) 11 (λ e.
+    need (not (anyBelow path (entries v))) 14
+    (accepted (done tt (deleted s (slotAt s (v .geometry) (e .slot)) e stamp) [])))))
+
+-- ---- reclaim: deleted runs become unused slots, the data area its least size
+unfoldable pub isDeleted : Entry → Bool
+isDeleted e = deletedType (e .kind)
+
+unfoldable pub cleared : List ℕ → Geometry → List Entry → List ℕ
+cleared s g [] = s
+cleared s g (e ∷ es) = cleared (pick (isDeleted e) (splice s (slotAt s g (e .slot)) (unusedBytes (e .slots))) s) g es
+
+-- the least size covers the regions that are left
+unfoldable pub leastEnd : List Entry → ℕ
+leastEnd es = largest (λ e. e .end) (only (λ e. not (isDeleted e)) es)
+
+unfoldable pub reclaimOf : List ℕ → ℤ → Written
+reclaimOf s stamp =
+    onWritable s (λ v.
+    let g : Geometry = restamp (v .geometry) (trimData (v .geometry) (leastEnd (entries v))) stamp in
+    accepted (done tt (cleared (putSizes s g) g (entries v)) []))

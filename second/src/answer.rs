@@ -1,0 +1,93 @@
+//! The answers of the calls: the refusal number first, then the call's other numbers, all of which
+//! are zero on a refusal.
+
+use crate::index::Entry;
+use crate::refusal::Refusal;
+
+/// The answer of the calls that write: format, create, delete and reclaim.
+#[derive(Clone, Copy, Debug, Default, PartialEq, Eq)]
+pub struct Written {
+    pub refusal: Refusal,
+}
+
+/// The answer of open.
+#[derive(Clone, Copy, Debug, Default, PartialEq, Eq)]
+pub struct Opened {
+    pub refusal: Refusal,
+    pub version: u8,
+    pub total: u64,
+    pub reserved: u64,
+    pub block_length: u64,
+    pub data: u64,
+    pub index: u64,
+    pub super_block_stamp: i64,
+    pub volume_stamp: i64,
+    pub name_length: u64,
+}
+
+/// The answer of find.
+#[derive(Clone, Copy, Debug, Default, PartialEq, Eq)]
+pub struct Found {
+    pub refusal: Refusal,
+    pub slot: u64,
+    pub kind: u8,
+    pub start: u64,
+    pub end: u64,
+    pub length: u64,
+    pub stamp: i64,
+}
+
+/// The answer of list; kind 0 says that no live entry is left.
+#[derive(Clone, Copy, Debug, Default, PartialEq, Eq)]
+pub struct Listed {
+    pub refusal: Refusal,
+    pub slot: u64,
+    pub kind: u8,
+    pub start: u64,
+    pub end: u64,
+    pub length: u64,
+    pub stamp: i64,
+    pub path_length: u64,
+}
+
+/// The answer of read.
+#[derive(Clone, Copy, Debug, Default, PartialEq, Eq)]
+pub struct Read {
+    pub refusal: Refusal,
+    pub length: u64,
+}
+
+impl From<Result<(), Refusal>> for Written {
+    fn from(outcome: Result<(), Refusal>) -> Self {
+        Written { refusal: outcome.err().unwrap_or(0) }
+    }
+}
+
+impl Found {
+    pub fn of(entry: &Entry) -> Self {
+        Found {
+            refusal: 0,
+            slot: entry.slot,
+            kind: entry.kind,
+            start: entry.start,
+            end: entry.end,
+            length: entry.length,
+            stamp: entry.stamp,
+        }
+    }
+}
+
+impl Listed {
+    pub fn of(entry: &Entry) -> Self {
+        Listed {
+            refusal: 0,
+            slot: entry.slot,
+            kind: entry.kind,
+            start: entry.start,
+            end: entry.end,
+            length: entry.length,
+            stamp: entry.stamp,
+            path_length: entry.path.len() as u64,
+        }
+    }
+}

@@ -1,0 +1,235 @@
+//! Images built slot by slot, with what no call of ours would leave: unusable entries, odd unused
+//! types, long names, runs longer than their names, gaps between regions, newer versions.
+
+use super::{least_reserved, odd_path, path_of_length, Writer};
+use crate::bytes::put;
+use crate::index::{DELETED_DIRECTORY, DELETED_FILE, DIRECTORY, FILE, IDENTIFIER, MARKER, UNUSABLE};
+use crate::superblock::{self, Geometry, CHECKSUM, MOST_INDEX, VERSION};
+use crate::xorshift::Xorshift;
+
+/// An image in the making.
+struct Builder {
+    image: Vec<u8>,
+    geometry: Geometry,
+    /// The next slot and block to give out.
+    slot: u64,
+    block: u64,
+    serial: u64,
+    directories: Vec<Vec<u8>>,
+}
+
+pub fn scene(w: &mut Writer) {
+    if w.rng.chance(10) {
+        return nearly_full_index(w);
+    }
+    let mut builder = Builder::new(&mut w.rng);
+    while builder.slot < builder.geometry.slots() - 1 {
+        builder.add(&mut w.rng);
+    }
+    if w.rng.chance(25) {
+        builder.spoil(&mut w.rng);
+    }
+    w.put(format!("image {}", builder.image.len()));
+    w.restore(&builder.image);
+    probe(w);
+}
+
+/// An index area close to its largest size and full, so that only growth could help.
+fn nearly_full_index(w: &mut Writer) {
+    let block = 256 << w.rng.below(5);
+    let image = 294_912;
+    let index = MOST_INDEX - 64 * w.rng.below(7);
+    let reserved = least_reserved(block) + w.rng.below(2);
+    let geometry = Geometry { image, block, total: image / block, reserved, data: 0, index };
+    let mut builder = Builder::with(geometry, VERSION_1_0_ONLY, &mut w.rng);
+    while builder.slot < geometry.slots() - 1 {
+        let slots = (geometry.slots() - 1 - builder.slot).min(256);
+        let kind = w.rng.pick(&[FILE, DIRECTORY, DELETED_DIRECTORY]);
+        builder.entry(kind, slots, &[], (0, 0, 0));
+    }
+    w.put(format!("image {image}"));
+    w.restore(&builder.image);
+    for _ in 0..5 {
+        let length = w.rng.pick(&[1, 29, 30, 93, 94, 157, 158, 285]);
+        let serial = w.serial();
+        let path = path_of_length(b"z", length, serial).split_off(2);
+        let room = w.rng.pick(&[0, 0, 1, block, 20_000]);
+        w.mkfile(&path, room);
+    }
+    w.reclaim();
+    w.list_all(2);
+}
+
+const VERSION_1_0_ONLY: u64 = 0;
+const SOME_NEWER: u64 = 15;
+
+impl Builder {
+    /// An empty index of some size, not always starting at a block.
+    fn new(rng: &mut Xorshift) -> Self {
+        let block = 256 << rng.below(5);
+        let reserved = least_reserved(block) + rng.below(3);
+        let index = 64 * (2 + rng.below(28));
+        let total = reserved + 2 + rng.below(20) + index.div_ceil(block);
+        let image = total * block;
+        let room = (image - index) / block - reserved;
+        let data = if rng.chance(60) { room - rng.below(room.min(3)) } else { rng.below(room + 1) };
+        Builder::with(Geometry { image, block, total, reserved, data, index }, SOME_NEWER, rng)
+    }
+
+    fn with(geometry: Geometry, newer: u64, rng: &mut Xorshift) -> Self {
+        let mut image = vec![0; geometry.image as usize];
+        superblock::write(&mut image, &geometry, rng.step() as i64 >> 8);
+        if rng.chance(newer) {
+            let version = rng.pick(&[0x11, 0x12, 0x1F, 0x20, 0x7F, 0x80, 0xFF]);
+            put(&mut image, VERSION, &[version]);
+            let checksum = superblock::sum(&image, CHECKSUM).wrapping_neg();
+            put(&mut image, CHECKSUM, &[checksum]);
+        }
+        put(&mut image, geometry.slot_offset(0), &[MARKER]);
+        put(&mut image, geometry.slot_offset(geometry.slots() - 1), &[IDENTIFIER, 0, 0, 0, 7, 0, 0, 0, 0, 0, 0, 0, b'V']);
+        Builder { image, geometry, slot: 1, block: geometry.reserved, serial: 0, directories: vec![Vec::new()] }
+    }
+
+    /// Adds one slot or run of some kind.
+    fn add(&mut self, rng: &mut Xorshift) {
+        match rng.below(10) {
+            0..=2 => self.unused(rng),
+            3 => {
+                let (start, end) = self.region(rng);
+                if start < end {
+                    self.entry(UNUSABLE, 1, &[], (start, end, rng.step()));
+                } else {
+                    self.unused(rng);
+                }
+            }
+            4 | 5 => self.named(rng, DIRECTORY),
+            6 => self.named(rng, DELETED_DIRECTORY),
+            7 => self.named(rng, DELETED_FILE),
+            _ => self.named(rng, FILE),
+        }
+    }
+
+    /// An unused slot of any such type, with rubbish behind it.
+    fn unused(&mut self, rng: &mut Xorshift) {
+        let kinds = [0, 3, 4, 9, 0x0F, 0x10, 0x10, 0x10, 0x13, 0x14, 0x17, 0x1B, 0x1C, 0x1F];
+        let mut slot = [rng.byte(); 64];
+        slot[0] = rng.pick(&kinds);
+        put(&mut self.image, self.geometry.slot_offset(self.slot), &slot);
+        self.slot += 1;
+    }
+
+    /// The next few blocks, at times after a gap; an empty region when none are left.
+    fn region(&mut self, rng: &mut Xorshift) -> (u64, u64) {
+        let start = self.block + if rng.chance(40) { rng.below(3) } else { 0 };
+        let end = start + 1 + rng.below(3);
+        if end > self.geometry.data_end() {
+            return (0, 0);
+        }
+        self.block = end;
+        (start, end)
+    }
+
+    fn named(&mut self, rng: &mut Xorshift, kind: u8) {
+        let directory = rng.pick(&self.directories);
+        self.serial += 1;
+        let length = if rng.chance(70) { 0 } else { rng.pick(&[29, 30, 53, 54, 94, 285, 286, 300, 414, 700]) };
+        let path = path_of_length(&directory, length, self.serial);
+        let is_file = matches!(kind, FILE | DELETED_FILE);
+        let first = if is_file { 30 } else { 54 };
+        let needed = 1 + (path.len() + 1).saturating_sub(first).div_ceil(64) as u64;
+        let slots = needed + if rng.chance(15) { rng.below(3) } else { 0 };
+        if self.slot + slots > self.geometry.slots() - 1 {
+            return self.unused(rng);
+        }
+        let mut numbers = (0, 0, 0);
+        if is_file && rng.chance(80) {
+            let (start, end) = self.region(rng);
+            let room = (end - start) * self.geometry.block;
+            let part = rng.below(room + 1);
+            numbers = (start, end, rng.pick(&[room, room, room.saturating_sub(1), 0, part]));
+        }
+        self.entry(kind, slots, &path, numbers);
+        if kind == DIRECTORY && path.len() < 120 {
+            self.directories.push(path);
+        }
+    }
+
+    /// Writes an entry's run. Without a path it gets a short one of its own.
+    fn entry(&mut self, kind: u8, slots: u64, path: &[u8], numbers: (u64, u64, u64)) {
+        let name = if path.is_empty() { format!("n{}", self.slot).into_bytes() } else { path.to_vec() };
+        let mut run = vec![0; slots as usize * 64];
+        put(&mut run, 0, &[kind, (slots - 1) as u8]);
+        put(&mut run, 2, &(self.slot as i64 - 9).to_le_bytes());
+        if matches!(kind, FILE | DELETED_FILE | UNUSABLE) {
+            put(&mut run, 10, &numbers.0.to_le_bytes());
+            put(&mut run, 18, &numbers.1.to_le_bytes());
+            put(&mut run, 26, &numbers.2.to_le_bytes());
+        }
+        if kind != UNUSABLE {
+            put(&mut run, if matches!(kind, FILE | DELETED_FILE) { 34 } else { 10 }, &name);
+        }
+        put(&mut self.image, self.geometry.slot_offset(self.slot), &run);
+        self.slot += slots;
+    }
+
+    /// One fault: a type that may not stand where it is, or a copied slot, which repeats a region
+    /// or a path.
+    fn spoil(&mut self, rng: &mut Xorshift) {
+        let slot = 1 + rng.below(self.geometry.slots() - 2);
+        let other = 1 + rng.below(self.geometry.slots() - 2);
+        let at = self.geometry.slot_offset(slot);
+        let from = self.geometry.slot_offset(other);
+        match rng.below(4) {
+            0 => put(&mut self.image, at, &[rng.pick(&[0x01, 0x02, 0x20, 0x41, 0x7F, 0xFF])]),
+            1 => put(&mut self.image, at, &[rng.below(0x20) as u8]),
+            2 => put(&mut self.image, at + 1, &[rng.byte()]),
+            _ => self.image.copy_within(from..from + 64, at),
+        }
+    }
+}
+
+/// Looks at everything, then writes into the holes.
+fn probe(w: &mut Writer) {
+    w.open();
+    w.list_all(6);
+    w.put("listing".to_string());
+    let steps = 6 + w.rng.below(10);
+    for _ in 0..steps {
+        let live = w.live();
+        let mut known = w.rng.pick(&live);
+        if w.rng.chance(5) {
+            known.path.push(b'!');
+        }
+        match w.rng.below(13) {
+            12 => w.mkdir(&known.path),
+            0 => w.find(&known.path),
+            1 | 2 => w.read(&known.path),
+            3 => w.delete(&known.path),
+            4 => w.reclaim(),
+            5 | 6 => create(w, true),
+            7 => {
+                let path = odd_path(&mut w.rng);
+                w.mkfile(&path, 2)
+            }
+            _ => create(w, false),
+        };
+    }
+    w.list_all(4);
+    w.put("listing".to_string());
+    w.put("history".to_string());
+}
+
+fn create(w: &mut Writer, directory: bool) -> u8 {
+    let parents: Vec<Vec<u8>> = w.live().into_iter().filter(|known| known.directory).map(|known| known.path).collect();
+    let parent = if w.rng.chance(50) { w.rng.pick(&parents) } else { Vec::new() };
+    let length = w.rng.pick(&[0, 0, 29, 30, 53, 54, 93, 94, 285]);
+    let serial = w.serial();
+    let mut path = path_of_length(&parent, length, serial);
+    path.push(b'w');
+    if directory {
+        return w.mkdir(&path);
+    }
+    let block = w.geometry().map_or(256, |geometry| geometry.block);
+    let bytes = w.rng.pick(&[0, 1, block - 1, block, block + 1, 2 * block, 3 * block + 7]);
+    w.mkfile(&path, bytes)
+}

@@ -1,0 +1,237 @@
+//! A healthy volume with one field damaged at a time; after a few calls it is made whole again.
+
+use super::{least_reserved, volume_name, Known, Writer};
+use crate::index::{COUNT_AT, END_AT, LENGTH_AT, START_AT};
+use crate::superblock::{Geometry, BLOCK_SIZE, CHECKSUM, DATA, INDEX, MAGIC, RESERVED, STAMP, TOTAL, VERSION};
+use crate::volume::Volume;
+
+/// The volume before any damage.
+struct Healthy {
+    image: Vec<u8>,
+    geometry: Geometry,
+    spots: Vec<Spot>,
+    live: Vec<Known>,
+}
+
+/// Where an entry lies.
+#[derive(Clone, Debug, Default)]
+struct Spot {
+    at: usize,
+    name_at: usize,
+    bytes: usize,
+    start: u64,
+    end: u64,
+    slot: u64,
+    name: Vec<u8>,
+}
+
+pub fn scene(w: &mut Writer) {
+    let block = 256 << w.rng.below(3);
+    let Some(healthy) = volume(w, block) else { return };
+    let rounds = 6 + w.rng.below(8);
+    for _ in 0..rounds {
+        damage(w, &healthy);
+        probe(w, &healthy);
+        w.restore(&healthy.image);
+    }
+    w.put("history".to_string());
+}
+
+/// A volume with every kind of entry, among them an unusable one poked in.
+fn volume(w: &mut Writer, block: u64) -> Option<Healthy> {
+    let total = least_reserved(block) + 12 + w.rng.below(8);
+    w.put(format!("image {}", total * block));
+    let name = volume_name(&mut w.rng);
+    w.format(block, least_reserved(block), &name);
+    w.mkfile(b"gone", 2 * block);
+    w.mkdir(b"d");
+    w.mkfile(b"d/f", block + 1);
+    w.mkfile(&[b'g'; 30], 3);
+    w.mkfile(b"empty", 0);
+    w.mkdir(b"old");
+    w.mkdir(&[[b'd'].as_slice(), b"/", &[b'h'; 52]].concat());
+    w.delete(b"gone");
+    w.delete(b"old");
+    if w.rng.chance(50) {
+        unusable(w);
+    }
+    healthy(w)
+}
+
+/// Turns the deleted directory's slot into an unusable entry on the last block of the data area.
+fn unusable(w: &mut Writer) {
+    let Some(healthy) = healthy(w) else { return };
+    let Some(spot) = healthy.spots.iter().find(|spot| spot.name == b"old") else { return };
+    let end = healthy.geometry.data_end();
+    let data = healthy.geometry.data + 1;
+    w.poke(DATA, &data.to_le_bytes());
+    w.poke(spot.at, &[&[0x18; 10][..], &end.to_le_bytes(), &(end + 1).to_le_bytes()].concat());
+}
+
+fn healthy(w: &Writer) -> Option<Healthy> {
+    let volume = Volume::judge(w.image()).ok()?;
+    let geometry = volume.super_block.geometry;
+    let spots = volume.index.entries.iter().map(|entry| Spot {
+        at: geometry.slot_offset(entry.slot),
+        name_at: crate::index::name_at(entry.kind).unwrap_or(34),
+        bytes: entry.slots as usize * 64,
+        start: entry.start,
+        end: entry.end,
+        slot: entry.slot,
+        name: entry.path.to_vec(),
+    });
+    Some(Healthy { image: w.image().to_vec(), geometry, spots: spots.collect(), live: w.live() })
+}
+
+fn damage(w: &mut Writer, healthy: &Healthy) {
+    let spot = w.rng.pick(&healthy.spots);
+    match w.rng.below(12) {
+        0..=3 => super_field(w, healthy),
+        4 => entry_type(w, &spot),
+        5 => entry_count(w, healthy, &spot),
+        6 | 7 => entry_number(w, healthy, &spot),
+        8 | 9 => name(w, healthy, &spot),
+        10 => marker(w, healthy),
+        _ => anywhere(w, healthy),
+    }
+}
+
+/// Values around the boundaries a number of blocks or bytes may have.
+fn boundary(w: &mut Writer, healthy: &Healthy, current: u64) -> u64 {
+    let Geometry { image, block, total, reserved, index, .. } = healthy.geometry;
+    let end = healthy.geometry.data_end();
+    let ceiling = healthy.geometry.ceiling().unwrap_or(0);
+    let centres =
+        [0, current, current, current, total, reserved, end, ceiling, ceiling - reserved, index, image, block, u64::MAX, 1 << 63, u64::MAX / block];
+    let centre = w.rng.pick(&centres);
+    match w.rng.below(4) {
+        0 => centre,
+        1 => centre.wrapping_add(1),
+        2 => centre.wrapping_sub(1),
+        _ => centre.wrapping_add(w.rng.pick(&[64, 128, 2, 0u64.wrapping_sub(64)])),
+    }
+}
+
+/// One super-block field; the checksum is made right again more often than not.
+fn super_field(w: &mut Writer, healthy: &Healthy) {
+    let fields = [(STAMP, 8), (DATA, 8), (INDEX, 8), (TOTAL, 8), (RESERVED, 4), (VERSION, 1), (BLOCK_SIZE, 1), (MAGIC, 3), (CHECKSUM, 1)];
+    let (at, width) = w.rng.pick(&fields);
+    let mut current = [0; 8];
+    current[..width].copy_from_slice(&healthy.image[at..at + width]);
+    let current = u64::from_le_bytes(current);
+    let value = match at {
+        VERSION => w.rng.pick(&[0, 1, 0x0F, 0x10, 0x11, 0x12, 0x20, 0x7F, 0x80, 0xFF]),
+        BLOCK_SIZE => w.rng.pick(&[0, 1, 2, 3, 4, 5, 6, 0x7F, 0x80, 0xFF, current + 1, current.wrapping_sub(1)]),
+        _ => boundary(w, healthy, current),
+    };
+    w.poke(at, &value.to_le_bytes()[..width]);
+    if at != CHECKSUM && w.rng.chance(70) {
+        w.refit();
+    }
+}
+
+fn entry_type(w: &mut Writer, spot: &Spot) {
+    let kind = if w.rng.chance(80) { w.rng.below(0x24) as u8 } else { w.rng.byte() };
+    w.poke(spot.at, &[kind]);
+}
+
+/// The count of continuing slots: just up to the identifier, just past it, or the ends.
+fn entry_count(w: &mut Writer, healthy: &Healthy, spot: &Spot) {
+    let most = (healthy.geometry.slots() - 2 - spot.slot) as u8;
+    let count = w.rng.pick(&[0, 1, 2, most, most.wrapping_add(1), most.wrapping_sub(1), 254, 255]);
+    w.poke(spot.at + COUNT_AT, &[count]);
+}
+
+fn entry_number(w: &mut Writer, healthy: &Healthy, spot: &Spot) {
+    let block = healthy.geometry.block;
+    let room = (spot.end.wrapping_sub(spot.start)).wrapping_mul(block);
+    let at = w.rng.pick(&[START_AT, END_AT, LENGTH_AT]);
+    let current = match at {
+        START_AT => w.rng.pick(&[spot.start, spot.end]),
+        END_AT => w.rng.pick(&[spot.end, spot.start]),
+        _ => room,
+    };
+    let value = boundary(w, healthy, current);
+    w.poke(spot.at + at, &value.to_le_bytes());
+    if w.rng.chance(15) {
+        w.poke(spot.at + START_AT, &[0; 16]);
+    }
+}
+
+/// The name: a bad byte, no zero, another entry's path, or a path whose directory is missing.
+fn name(w: &mut Writer, healthy: &Healthy, spot: &Spot) {
+    let at = spot.at + spot.name_at;
+    let field = spot.bytes - spot.name_at;
+    match w.rng.below(6) {
+        0 | 1 => {
+            let place = w.rng.below(spot.name.len() as u64 + 1) as usize;
+            let byte = w.rng.pick(&[0, 1, 0x1F, 0x20, 0x7F, 0x80, 0xA0, 0xA1, b'/', b'.', b'"', b'*', b':', b'\\', 0xFF]);
+            w.poke(at + place, &[byte]);
+        }
+        2 => {
+            // Either no zero at all, or one in the very last byte.
+            let filled = field - w.rng.below(2) as usize;
+            w.poke(at, &vec![b'x'; filled]);
+        }
+        3 | 4 => {
+            let live = w.rng.pick(&healthy.live).path;
+            w.poke(at, &[live.as_slice(), b"\0"].concat()[..field.min(live.len() + 1)]);
+        }
+        _ => {
+            let texts: [&[u8]; 10] = [b"m/n", b"/n", b"n/", b"n//m", b".", b"..", b"d/.", b"empty/x", b"d/f/x", b""];
+            let text = w.rng.pick(&texts);
+            w.poke(at, &[text, b"\0"].concat());
+        }
+    }
+}
+
+fn marker(w: &mut Writer, healthy: &Healthy) {
+    let first = healthy.geometry.slot_offset(0);
+    let last = healthy.geometry.slot_offset(healthy.geometry.slots() - 1);
+    let byte = w.rng.pick(&[0, 1, 2, 3, 0x10, 0x11, 0x12, 0x20, 0xFF]);
+    match w.rng.below(5) {
+        0 => w.poke(first, &[byte]),
+        1 => w.poke(last, &[byte]),
+        // Spare bytes, which nobody judges.
+        2 => w.poke(first + 1, &[byte; 63]),
+        3 => {
+            let name = vec![b'V'; 51 + w.rng.below(2) as usize];
+            w.poke(last + 12, &name);
+        }
+        _ => {
+            let place = w.rng.below(52) as usize;
+            let bad = w.rng.pick(&[b'/', 0x7F, 0xA0, 0x1F, b'?', b' ', 0xA1, 0]);
+            w.poke(last + 12 + place, &[bad]);
+        }
+    }
+}
+
+/// A byte of the index area, or one that no answer may depend on.
+fn anywhere(w: &mut Writer, healthy: &Healthy) {
+    let byte = w.rng.byte();
+    let area = healthy.geometry.slot_offset(0) as u64;
+    let at = if w.rng.chance(60) { area + w.rng.below(healthy.geometry.index) } else { w.rng.below(healthy.geometry.image) };
+    w.poke(at as usize, &[byte]);
+}
+
+/// A few calls of each sort on the damaged volume.
+fn probe(w: &mut Writer, healthy: &Healthy) {
+    w.open();
+    let path = w.rng.pick(&healthy.live).path;
+    let serial = w.serial().to_string().into_bytes();
+    for _ in 0..3 {
+        match w.rng.below(9) {
+            0 => w.find(&path),
+            1 | 2 => w.read(&path),
+            3 => w.mkfile(&serial, 1),
+            4 => w.mkdir(&path),
+            5 => w.delete(&path),
+            6 => w.reclaim(),
+            7 => w.put("listing".to_string()),
+            _ => {
+                w.list_all(3);
+                0
+            }
+        };
+    }
+}

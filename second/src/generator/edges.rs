@@ -1,0 +1,68 @@
+//! Edge lengths of images and outputs.
+
+use super::{least_reserved, volume_name, Writer};
+use crate::script::hex;
+
+const LENGTHS: [u64; 22] = [
+    0, 1, 64, 444, 445, 511, 512, 513, 768, 1023, 1024, 1024, 1025, 1280, 1536, 2048, 4096, 8192, 12_288, 65_536, 65_536,
+    65_537,
+];
+const LARGE: u64 = 16_777_216;
+
+pub fn scene(w: &mut Writer) {
+    let length = if w.rng.chance(1) { LARGE + w.rng.below(2) } else { w.rng.pick(&LENGTHS) };
+    if w.rng.chance(50) {
+        w.put(format!("image {length}"));
+    } else {
+        let seed = w.rng.below(1000);
+        w.put(format!("imagefill {length} {seed}"));
+    }
+    w.put("open 0".to_string());
+    let block = 256 << if w.rng.chance(50) { 0 } else { w.rng.below(5) };
+    let total = length / block;
+    let least = least_reserved(block);
+    let reserved = w.rng.pick(&[least, least, least, total.saturating_sub(2), total.saturating_sub(1)]);
+    let name = volume_name(&mut w.rng);
+    let refused = w.format(block, reserved, &name);
+    if refused == 0 {
+        outputs(w, name.len() as u64, block);
+    }
+    w.put("listing".to_string());
+    w.put("history".to_string());
+    if length < LARGE {
+        cut(w, length);
+    }
+}
+
+/// Outputs of no bytes, one short, just enough and one more.
+fn outputs(w: &mut Writer, name: u64, block: u64) {
+    around(w, "open", name);
+    let length = w.rng.pick(&[0, 1, block - 1, block]);
+    if w.mkfile(b"f", length) == 0 {
+        around(w, &format!("read {}", hex(b"f")), length);
+    }
+    let path = vec![b'p'; w.rng.pick(&[1, 29, 30, 93, 94, 285])];
+    if w.mkdir(&path) == 0 {
+        around(w, "list 0", path.len() as u64);
+        around(w, "list 2", path.len() as u64);
+    }
+    w.put("read 66 17000".to_string());
+}
+
+fn around(w: &mut Writer, command: &str, needed: u64) {
+    for room in [0, needed.saturating_sub(1), needed, needed + 1] {
+        w.put(format!("{command} {room}"));
+    }
+}
+
+/// The image cut or extended: its length no longer agrees with the super-block.
+fn cut(w: &mut Writer, length: u64) {
+    let other = w.rng.pick(&[length.saturating_sub(1), length + 1, length + 256, length / 2, 512, 0]);
+    w.put(format!("truncate {other}"));
+    w.open();
+    w.find(b"f");
+    w.reclaim();
+    w.put(format!("truncate {length}"));
+    w.open();
+    w.put("history".to_string());
+}

@@ -1,0 +1,271 @@
+//! Seeded scripts. The writer carries every line out as it writes it, so that a scene can aim at
+//! the edges of the volume as it stands. The same seed always gives the same script.
+
+mod args;
+mod built;
+mod damage;
+mod edges;
+mod history;
+
+use crate::index::Entry;
+use crate::script::{hex, Session};
+use crate::superblock::{Geometry, CHECKSUM};
+use crate::volume::Volume;
+use crate::xorshift::Xorshift;
+
+type Scene = fn(&mut Writer);
+
+/// The families of scenes, with the weight each has in a mixed script.
+const FAMILIES: [(&str, u64, Scene); 5] = [
+    ("history", 40, history::scene),
+    ("damage", 20, damage::scene),
+    ("built", 20, built::scene),
+    ("edges", 8, edges::scene),
+    ("args", 12, args::scene),
+];
+
+/// A script of about `count` calls, of one family or mixed; nothing when there is no such family.
+pub fn script(seed: u64, count: u64, kind: Option<&str>) -> Option<String> {
+    let known = kind.map_or(true, |kind| FAMILIES.iter().any(|family| family.0 == kind));
+    if !known {
+        return None;
+    }
+    let mut writer = Writer::new(seed);
+    while writer.calls() < count {
+        let scene = writer.choose(kind);
+        scene(&mut writer);
+    }
+    Some(writer.script)
+}
+
+/// The script number `place` of a self-test: a history, and behind every second one another scene.
+pub fn one(seed: u64, place: u64) -> String {
+    let mut writer = Writer::new(seed.wrapping_mul(0x9E37_79B9_7F4A_7C15).wrapping_add(place.wrapping_mul(2) + 1));
+    history::scene(&mut writer);
+    if place % 2 == 1 {
+        let family = (place / 2) as usize % (FAMILIES.len() - 1) + 1;
+        (FAMILIES[family].2)(&mut writer);
+    }
+    writer.script
+}
+
+/// A live entry, owned.
+#[derive(Clone, Debug, Default)]
+pub struct Known {
+    pub path: Vec<u8>,
+    pub directory: bool,
+    pub length: u64,
+    pub slot: u64,
+}
+
+/// Writes a script while following it.
+pub struct Writer {
+    pub rng: Xorshift,
+    session: Session,
+    script: String,
+    serial: u64,
+}
+
+impl Writer {
+    fn new(seed: u64) -> Self {
+        let mut rng = Xorshift::new(seed.wrapping_add(0x5851_F42D_4C95_7F2D));
+        // Neighbouring seeds start alike; a few steps part them.
+        for _ in 0..8 {
+            rng.step();
+        }
+        Writer { rng, session: Session::without_digests(), script: String::new(), serial: 0 }
+    }
+
+    fn choose(&mut self, kind: Option<&str>) -> Scene {
+        let mut weight = self.rng.below(FAMILIES.iter().map(|family| family.1).sum());
+        for (name, share, scene) in FAMILIES {
+            if kind == Some(name) || (kind.is_none() && weight < share) {
+                return scene;
+            }
+            weight = weight.saturating_sub(share);
+        }
+        history::scene
+    }
+
+    fn calls(&self) -> u64 {
+        self.session.calls
+    }
+
+    /// Adds a line and gives the refusal number of the last call so far.
+    pub fn put(&mut self, line: String) -> u8 {
+        // A line the interpreter cannot read stays in the script, where the tests find it.
+        let _ = self.session.execute(&line);
+        self.script.push_str(&line);
+        self.script.push('\n');
+        self.session.last
+    }
+
+    pub fn image(&self) -> &[u8] {
+        self.session.image()
+    }
+
+    pub fn length(&self) -> u64 {
+        self.image().len() as u64
+    }
+
+    /// The stored geometry when it is good.
+    pub fn geometry(&self) -> Option<Geometry> {
+        Geometry::stored(self.image()).filter(Geometry::is_good)
+    }
+
+    /// The live entries in slot order, none if the image does not open.
+    pub fn live(&self) -> Vec<Known> {
+        let entries = Volume::judge(self.image()).map(|volume| volume.index.entries).unwrap_or_default();
+        entries.iter().filter(|entry| entry.is_live()).map(known).collect()
+    }
+
+    /// A number not given before in this script.
+    pub fn serial(&mut self) -> u64 {
+        self.serial += 1;
+        self.serial
+    }
+
+    pub fn stamp(&mut self) -> i64 {
+        let edges = [0, -1, 1, 0x3C_0000, 0x5BA6_D89F_0000, i64::MIN, i64::MAX, 951_782_400 << 16];
+        if self.rng.chance(30) {
+            return self.rng.pick(&edges);
+        }
+        (self.rng.step() >> 8) as i64 - (1 << 55)
+    }
+
+    pub fn poke(&mut self, at: usize, bytes: &[u8]) {
+        self.put(format!("poke {at} {}", hex(bytes)));
+    }
+
+    /// Makes the super-block's checksum right again.
+    pub fn refit(&mut self) {
+        let checksum = crate::superblock::sum(self.image(), CHECKSUM).wrapping_neg();
+        self.poke(CHECKSUM, &[checksum]);
+    }
+
+    /// Pokes until the image is `wanted`; both have one length.
+    pub fn restore(&mut self, wanted: &[u8]) {
+        for at in (0..wanted.len()).step_by(64) {
+            let end = wanted.len().min(at + 64);
+            if self.image().get(at..end) != wanted.get(at..end) {
+                self.poke(at, &wanted[at..end]);
+            }
+        }
+    }
+
+    pub fn mkfile(&mut self, path: &[u8], length: u64) -> u8 {
+        let stamp = self.stamp();
+        let data = match length {
+            0 => "-".to_string(),
+            1..=8 => hex(&crate::xorshift::fill(length as usize, self.rng.step())),
+            _ => format!("fill:{length}:{}", self.rng.below(1_000_000)),
+        };
+        self.put(format!("mkfile {} {stamp} {data}", hex(path)))
+    }
+
+    pub fn mkdir(&mut self, path: &[u8]) -> u8 {
+        let stamp = self.stamp();
+        self.put(format!("mkdir {} {stamp}", hex(path)))
+    }
+
+    pub fn delete(&mut self, path: &[u8]) -> u8 {
+        let stamp = self.stamp();
+        self.put(format!("delete {} {stamp}", hex(path)))
+    }
+
+    pub fn reclaim(&mut self) -> u8 {
+        let stamp = self.stamp();
+        self.put(format!("reclaim {stamp}"))
+    }
+
+    pub fn format(&mut self, block: u64, reserved: u64, name: &[u8]) -> u8 {
+        let stamp = self.stamp();
+        self.put(format!("format {block} {reserved} {} {stamp}", hex(name)))
+    }
+
+    pub fn find(&mut self, path: &[u8]) -> u8 {
+        self.put(format!("find {}", hex(path)))
+    }
+
+    /// An output length around the one needed: mostly enough, else nothing or one short.
+    pub fn room(&mut self, needed: u64) -> u64 {
+        match self.rng.below(8) {
+            0 => 0,
+            1 => needed.saturating_sub(1),
+            2 => needed + 1,
+            3 => needed + 40,
+            _ => needed,
+        }
+    }
+
+    pub fn open(&mut self) -> u8 {
+        let name = Volume::judge(self.image()).map_or(51, |volume| volume.index.volume_name.len() as u64);
+        let room = self.room(name);
+        self.put(format!("open {room}"))
+    }
+
+    pub fn read(&mut self, path: &[u8]) -> u8 {
+        let needed = self.live().iter().find(|known| known.path == path).map_or(9, |known| known.length);
+        let room = self.room(needed.min(70_000));
+        self.put(format!("read {} {room}", hex(path)))
+    }
+
+    /// Lists from slot to slot to the end, over at most `most` entries.
+    pub fn list_all(&mut self, most: usize) {
+        let mut from = 0;
+        for known in self.live().iter().take(most) {
+            let room = self.room(known.path.len() as u64);
+            self.put(format!("list {from} {room}"));
+            from = known.slot + 1;
+        }
+        self.put(format!("list {from} 285"));
+    }
+}
+
+fn known(entry: &Entry) -> Known {
+    Known { path: entry.path.to_vec(), directory: entry.kind == 0x11, length: entry.length, slot: entry.slot }
+}
+
+/// Path arguments that are refused, or look as if they should be.
+pub fn odd_path(rng: &mut Xorshift) -> Vec<u8> {
+    let odd: [&[u8]; 36] = [
+        b"", b"/", b".", b"..", b"a//b", b"/a", b"a/", b"a/./b", b"a/../b", b"./a", b"a/..", b"\0", b"a\0", b"a\x1f",
+        b"\x7f", b"a\x80", b"\xa0", b"\xa1", b"\x20", b"a\"b", b"*", b":", b"<a", b"a>", b"?", b"a\\b", b"...", b".a",
+        b"a.", b"..a", b"~", b"\xc3\xa4", b"\xff", b"a/\x01", b"a/b/c/d/e/f", b"no/such",
+    ];
+    match rng.below(40) {
+        0 => vec![b'q'; 285],
+        1 | 2 => vec![b'q'; 286],
+        3 => vec![b'q'; 300 + rng.below(500) as usize],
+        _ => rng.pick(&odd).to_vec(),
+    }
+}
+
+/// A path of exactly `length` bytes below `directory`, if it is long enough to hold one.
+pub fn path_of_length(directory: &[u8], length: usize, serial: u64) -> Vec<u8> {
+    let mut path = directory.to_vec();
+    if !path.is_empty() {
+        path.push(b'/');
+    }
+    path.extend_from_slice(serial.to_string().as_bytes());
+    while path.len() < length {
+        path.push(b'a' + (path.len() % 26) as u8);
+    }
+    path
+}
+
+/// A volume name of some length, the edges among them.
+pub fn volume_name(rng: &mut Xorshift) -> Vec<u8> {
+    match rng.below(10) {
+        0 => Vec::new(),
+        1 => vec![b'N'; 51],
+        2 => vec![b'N'; 50],
+        3 => rng.pick(&[b".".as_slice(), b"..", b"\xc3\xa9t\xc3\xa9", b"a b"]).to_vec(),
+        _ => format!("TERM{}", rng.below(100)).into_bytes(),
+    }
+}
+
+/// The least number of reserved blocks for a block length.
+pub fn least_reserved(block: u64) -> u64 {
+    512u64.div_ceil(block)
+}

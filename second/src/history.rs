@@ -1,0 +1,177 @@
+//! The history of a list of calls, and the check of the image the list leaves.
+//!
+//! The history hears arguments and whether a call was accepted, never the image. The check reads
+//! the image by a walk of its own, so that a fault in the calls' planning cannot hide itself; only
+//! the reads of live files go through the calls, because they are part of what is checked.
+
+use crate::query;
+
+const LIVE_DIRECTORY: u8 = 0x11;
+const LIVE_FILE: u8 = 0x12;
+
+/// One call, as far as the history cares for it.
+#[derive(Clone, Copy, Debug)]
+pub enum Told<'a> {
+    Format { block: u64 },
+    File { path: &'a [u8], bytes: &'a [u8] },
+    Directory { path: &'a [u8] },
+    Delete { path: &'a [u8] },
+    Reclaim,
+}
+
+#[derive(Clone, Debug)]
+struct Kept {
+    path: Vec<u8>,
+    kind: u8,
+    bytes: Vec<u8>,
+    blocks: u64,
+    live: bool,
+}
+
+/// What an accepted list of calls should have left behind.
+#[derive(Clone, Debug, Default)]
+pub struct History {
+    block: u64,
+    entries: Vec<Kept>,
+    granted: u64,
+    given_back: u64,
+}
+
+impl History {
+    /// The history just after an accepted format.
+    pub fn begin(block: u64) -> Self {
+        History { block, ..History::default() }
+    }
+
+    /// Hears of one call; a refused one changes nothing.
+    pub fn tell(&mut self, call: Told, accepted: bool) {
+        if !accepted {
+            return;
+        }
+        match call {
+            Told::Format { block } => *self = History::begin(block),
+            Told::File { path, bytes } => {
+                let blocks = (bytes.len() as u64).div_ceil(self.block.max(1));
+                self.add(path, LIVE_FILE, bytes, blocks);
+            }
+            Told::Directory { path } => self.add(path, LIVE_DIRECTORY, &[], 0),
+            Told::Delete { path } => {
+                if let Some(kept) = self.entries.iter_mut().find(|kept| kept.live && kept.path == path) {
+                    kept.live = false;
+                }
+            }
+            Told::Reclaim => {
+                let deleted = self.entries.iter().filter(|kept| !kept.live);
+                self.given_back += deleted.map(|kept| kept.blocks).sum::<u64>();
+                self.entries.retain(|kept| kept.live);
+            }
+        }
+    }
+
+    fn add(&mut self, path: &[u8], kind: u8, bytes: &[u8], blocks: u64) {
+        self.granted += blocks;
+        self.entries.push(Kept { path: path.to_vec(), kind, bytes: bytes.to_vec(), blocks, live: true });
+    }
+
+    /// Checks the image the list has left; the error says what is wrong.
+    pub fn check(&self, image: &[u8]) -> Result<(), String> {
+        let seen = walk(image)?;
+        self.check_blocks(image, &seen)?;
+        self.check_live(&seen)?;
+        self.entries.iter().filter(|kept| kept.live && kept.kind == LIVE_FILE).try_for_each(|kept| kept.check(image))
+    }
+
+    /// Blocks of files, live and deleted: none held twice, and as many as granted and not given back.
+    fn check_blocks(&self, image: &[u8], seen: &[Seen]) -> Result<(), String> {
+        let mut owned = vec![false; image.len() / self.block.max(1) as usize];
+        let mut held = 0;
+        for file in seen {
+            for block in file.start..file.end {
+                let owner = owned.get_mut(block as usize).ok_or("a block beyond the image")?;
+                if std::mem::replace(owner, true) {
+                    return Err(format!("block {block} is held twice"));
+                }
+                held += 1;
+            }
+        }
+        let expected = self.granted.saturating_sub(self.given_back);
+        if held != expected {
+            return Err(format!("{held} blocks held, not {expected}"));
+        }
+        Ok(())
+    }
+
+    /// Live paths and kinds, as sorted lists.
+    fn check_live(&self, seen: &[Seen]) -> Result<(), String> {
+        let live = |kind: u8| kind == LIVE_FILE || kind == LIVE_DIRECTORY;
+        let mut stored: Vec<_> = seen.iter().filter(|one| live(one.kind)).map(|one| (&one.path, one.kind)).collect();
+        let mut kept: Vec<_> = self.entries.iter().filter(|one| one.live).map(|one| (&one.path, one.kind)).collect();
+        stored.sort();
+        kept.sort();
+        if stored != kept {
+            return Err(format!("{} live entries stored, {} kept, or other ones", stored.len(), kept.len()));
+        }
+        Ok(())
+    }
+}
+
+impl Kept {
+    /// Reads the file into outputs of just its length and of more; no byte past it may change.
+    fn check(&self, image: &[u8]) -> Result<(), String> {
+        for spare in [0, 5] {
+            let mut output = vec![0x5A; self.bytes.len() + spare];
+            let answer = query::read(image, &self.path, &mut output);
+            if answer.refusal != 0 || answer.length != self.bytes.len() as u64 {
+                return Err(format!("read answered {} and {}", answer.refusal, answer.length));
+            }
+            let (bytes, rest) = output.split_at(self.bytes.len());
+            if bytes != self.bytes || rest.iter().any(|byte| *byte != 0x5A) {
+                return Err("read gave other bytes".to_string());
+            }
+        }
+        Ok(())
+    }
+}
+
+/// A named entry as the image has it; directories have no blocks.
+struct Seen {
+    kind: u8,
+    path: Vec<u8>,
+    start: u64,
+    end: u64,
+}
+
+fn number(bytes: &[u8]) -> u64 {
+    bytes.iter().take(8).rev().fold(0, |sum, byte| sum << 8 | u64::from(*byte))
+}
+
+/// All named entries, by a plain walk over the slots.
+fn walk(image: &[u8]) -> Result<Vec<Seen>, String> {
+    let size = number(image.get(0x1A4..).unwrap_or(&[]));
+    let from = (image.len() as u64).checked_sub(size).ok_or("the index is larger than the image")?;
+    let slots: Vec<&[u8]> = image[from as usize..].chunks(64).collect();
+    let mut seen = Vec::new();
+    let mut at = 1;
+    while at + 1 < slots.len() {
+        let slot = slots[at];
+        let name_at = match slot[0] {
+            0x11 | 0x19 => 10,
+            0x12 | 0x1A => 34,
+            0x01 | 0x02 | 0x20..=0xFF => return Err(format!("slot {at} has type {}", slot[0])),
+            _ => {
+                at += 1;
+                continue;
+            }
+        };
+        let next = at + 1 + usize::from(slot[1]);
+        if next >= slots.len() {
+            return Err(format!("the run of slot {at} meets the identifier"));
+        }
+        let text = slots[at..next].concat().split_off(name_at);
+        let path: Vec<u8> = text.iter().copied().take_while(|byte| *byte != 0).collect();
+        let blocks = if name_at == 34 { (number(&slot[10..]), number(&slot[18..])) } else { (0, 0) };
+        seen.push(Seen { kind: slot[0], path, start: blocks.0, end: blocks.1 });
+        at = next;
+    }
+    Ok(seen)
+}

@@ -1,0 +1,33 @@
+//! A second, independent implementation of the Simple File System 1.0.
+//!
+//! It exists to be compared with another program, so it is kept plain: every call judges the whole
+//! image afresh, plans with ordinary vectors, and writes only once nothing can be refused any more.
+#![forbid(unsafe_code)]
+
+pub mod answer;
+pub mod bytes;
+pub mod create;
+pub mod dates;
+pub mod erase;
+pub mod format;
+pub mod generator;
+pub mod history;
+pub mod index;
+pub mod listing;
+pub mod names;
+pub mod paths;
+pub mod query;
+pub mod refusal;
+pub mod regions;
+pub mod script;
+pub mod selftest;
+pub mod superblock;
+pub mod volume;
+pub mod xorshift;
+
+pub use answer::{Found, Listed, Opened, Read, Written};
+pub use create::{create, create_directory, create_file, Content};
+pub use erase::{delete, reclaim};
+pub use format::format;
+pub use listing::listing;
+pub use query::{find, list, open, read};

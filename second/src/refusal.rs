@@ -1,0 +1,27 @@
+//! The refusal numbers. Lower numbers win, so the judging code runs in this order.
+
+/// A refusal number; 0 is kept for success.
+pub type Refusal = u8;
+
+pub const SUCCESS: Refusal = 0;
+pub const IMAGE_LENGTH: Refusal = 1;
+pub const MAGIC: Refusal = 2;
+pub const OLD_VERSION: Refusal = 3;
+pub const CHECKSUM: Refusal = 4;
+pub const GEOMETRY: Refusal = 5;
+pub const INDEX: Refusal = 6;
+pub const REGIONS: Refusal = 7;
+pub const PATHS: Refusal = 8;
+pub const NEWER_VERSION: Refusal = 9;
+pub const BAD_NAME: Refusal = 10;
+pub const NOT_LIVE: Refusal = 11;
+pub const ALREADY_LIVE: Refusal = 12;
+pub const NO_DIRECTORY: Refusal = 13;
+pub const NOT_EMPTY: Refusal = 14;
+pub const NO_SLOTS: Refusal = 15;
+pub const NO_BLOCKS: Refusal = 16;
+pub const NOT_A_FILE: Refusal = 17;
+pub const OUTPUT_SHORT: Refusal = 18;
+
+/// The highest refusal number.
+pub const HIGHEST: Refusal = OUTPUT_SHORT;

@@ -1,0 +1,68 @@
+//! Regions of blocks: their bounds, that none share a block (refusal 7), and the search for a free
+//! run of blocks.
+
+use crate::index::{Entry, UNUSABLE};
+use crate::refusal::{self, Refusal};
+use crate::superblock::Geometry;
+
+/// Blocks from `start` up to but without `end`; never empty.
+#[derive(Clone, Copy, Debug, PartialEq, Eq, PartialOrd, Ord)]
+pub struct Region {
+    pub start: u64,
+    pub end: u64,
+}
+
+/// Judges the regions of all entries and gives them in order of their blocks.
+pub fn judge(entries: &[Entry], geometry: &Geometry) -> Result<Vec<Region>, Refusal> {
+    let mut regions = Vec::new();
+    for entry in entries {
+        regions.extend(region(entry, geometry)?);
+    }
+    regions.sort_unstable();
+    // None is empty, so in sorted order any overlap shows between neighbours.
+    let shared = regions.windows(2).any(|pair| pair[0].end > pair[1].start);
+    if shared {
+        return Err(refusal::REGIONS);
+    }
+    Ok(regions)
+}
+
+/// The region of one entry, if it holds any blocks.
+fn region(entry: &Entry, geometry: &Geometry) -> Result<Option<Region>, Refusal> {
+    let unusable = entry.kind == UNUSABLE;
+    if !unusable && !entry.is_file() {
+        return Ok(None);
+    }
+    let Entry { start, end, length, .. } = *entry;
+    if !unusable && start == 0 && end == 0 && length == 0 {
+        return Ok(None);
+    }
+    let bounded = geometry.reserved <= start && start < end && end <= geometry.data_end();
+    if !bounded {
+        return Err(refusal::REGIONS);
+    }
+    let room = u128::from(end - start) * u128::from(geometry.block);
+    if u128::from(length) > room {
+        return Err(refusal::REGIONS);
+    }
+    Ok(Some(Region { start, end }))
+}
+
+/// The lowest start at or above `from` with `wanted` blocks that meet no region and end at or below
+/// `ceiling`. The regions are sorted and lie below the ceiling.
+pub fn lowest_free_start(regions: &[Region], from: u64, wanted: u64, ceiling: u64) -> Option<u64> {
+    let mut start = from;
+    for region in regions {
+        if start.checked_add(wanted)? <= region.start {
+            break;
+        }
+        start = start.max(region.end);
+    }
+    (start.checked_add(wanted)? <= ceiling).then_some(start)
+}
+
+/// The least data area that covers all the regions.
+pub fn covering(regions: &[Region], reserved: u64) -> u64 {
+    let end = regions.iter().map(|region| region.end).max();
+    end.map_or(0, |end| end.saturating_sub(reserved))
+}

@@ -1,0 +1,252 @@
+//! The script interpreter. `SCRIPT.md` is the exact description of what it reads and prints.
+
+use crate::history::{History, Told};
+use crate::refusal::{Refusal, HIGHEST};
+use crate::xorshift::fill;
+use crate::{create_directory, create_file, delete, find, format, list, listing, open, read, reclaim};
+
+/// The most bytes a script may ask for in one piece.
+pub const MOST_BYTES: u64 = 17_000_000;
+
+/// FNV-1a, 64 bits.
+pub fn digest(bytes: &[u8]) -> u64 {
+    bytes.iter().fold(0xCBF2_9CE4_8422_2325, |hash, byte| (hash ^ u64::from(*byte)).wrapping_mul(0x0100_0000_01B3))
+}
+
+/// A lent output, prefilled so that stray writes show in its digest.
+pub fn lent(length: usize) -> Vec<u8> {
+    (0..length).map(|place| 0xA5 ^ (place.wrapping_mul(7) & 0xFF) as u8).collect()
+}
+
+/// Lower-case hex, `-` for no bytes.
+pub fn hex(bytes: &[u8]) -> String {
+    if bytes.is_empty() {
+        return "-".to_string();
+    }
+    bytes.iter().map(|byte| format!("{byte:02x}")).collect()
+}
+
+fn unhex(word: &str) -> Result<Vec<u8>, String> {
+    if word == "-" {
+        return Ok(Vec::new());
+    }
+    let digits: Option<Vec<u8>> = word.chars().map(|digit| digit.to_digit(16).map(|value| value as u8)).collect();
+    match digits {
+        Some(digits) if digits.len() % 2 == 0 => Ok(digits.chunks(2).map(|pair| pair[0] << 4 | pair[1]).collect()),
+        _ => Err(format!("bad hex {word:.20}")),
+    }
+}
+
+/// The words of one line, taken from the left.
+struct Words<'a>(std::str::SplitWhitespace<'a>);
+
+impl<'a> Words<'a> {
+    fn word(&mut self) -> Result<&'a str, String> {
+        self.0.next().ok_or_else(|| "a word is missing".to_string())
+    }
+
+    fn number<T: std::str::FromStr>(&mut self) -> Result<T, String> {
+        let word = self.word()?;
+        word.parse().map_err(|_| format!("bad number {word:.30}"))
+    }
+
+    fn length(&mut self) -> Result<usize, String> {
+        bounded(self.number()?)
+    }
+
+    fn bytes(&mut self) -> Result<Vec<u8>, String> {
+        unhex(self.word()?)
+    }
+
+    /// Hex, or `fill:LEN:SEED`.
+    fn data(&mut self) -> Result<Vec<u8>, String> {
+        let word = self.word()?;
+        let Some(rest) = word.strip_prefix("fill:") else { return unhex(word) };
+        let bad = || format!("bad fill {word:.40}");
+        let (length, seed) = rest.split_once(':').ok_or_else(bad)?;
+        let length = bounded(length.parse().map_err(|_| bad())?)?;
+        Ok(fill(length, seed.parse().map_err(|_| bad())?))
+    }
+
+    fn done(&mut self) -> Result<(), String> {
+        self.0.next().map_or(Ok(()), |word| Err(format!("a word too many: {word:.20}")))
+    }
+}
+
+fn bounded(length: u64) -> Result<usize, String> {
+    if length > MOST_BYTES {
+        return Err(format!("{length} is over {MOST_BYTES}"));
+    }
+    Ok(length as usize)
+}
+
+/// The state a script works on, and a tally of the answers.
+#[derive(Clone, Debug)]
+pub struct Session {
+    image: Vec<u8>,
+    history: Option<History>,
+    /// How often each refusal number was the answer of a call; listings and histories not counted.
+    pub met: [u64; HIGHEST as usize + 1],
+    /// Calls answered, listings among them.
+    pub calls: u64,
+    /// The last call's refusal number.
+    pub last: Refusal,
+    digests: bool,
+}
+
+impl Default for Session {
+    fn default() -> Self {
+        Session { image: Vec::new(), history: None, met: Default::default(), calls: 0, last: 0, digests: true }
+    }
+}
+
+impl Session {
+    /// A session whose lines leave the digests out, for when nobody reads them.
+    pub fn without_digests() -> Self {
+        Session { digests: false, ..Session::default() }
+    }
+
+    pub fn image(&self) -> &[u8] {
+        &self.image
+    }
+
+    /// Carries out one line; gives the line to print, if there is one.
+    pub fn execute(&mut self, line: &str) -> Result<Option<String>, String> {
+        let mut words = Words(line.split_whitespace());
+        let word = match words.word() {
+            Ok(word) if !word.starts_with('#') => word,
+            _ => return Ok(None),
+        };
+        match word {
+            "image" | "imagefill" | "imagehex" | "poke" | "truncate" => self.reshape(word, words).map(|()| None),
+            "open" | "find" | "list" | "read" => self.ask(word, words).map(Some),
+            "format" | "mkfile" | "mkdir" | "delete" | "reclaim" => self.write(word, words).map(Some),
+            "listing" => self.listing(words).map(Some),
+            "history" => words.done().map(|()| Some(self.check())),
+            _ => Err(format!("unknown command {word:.20}")),
+        }
+    }
+
+    /// Commands that make or alter the image behind the calls' back; each ends the history.
+    fn reshape(&mut self, word: &str, mut words: Words) -> Result<(), String> {
+        match word {
+            "image" => self.image = vec![0; words.length()?],
+            "imagefill" => self.image = fill(words.length()?, words.number()?),
+            "imagehex" => self.image = words.bytes()?,
+            "truncate" => self.image.resize(words.length()?, 0),
+            _ => {
+                let at: u64 = words.number()?;
+                let room = self.image.get_mut(usize::try_from(at).unwrap_or(usize::MAX)..);
+                room.unwrap_or_default().iter_mut().zip(words.bytes()?).for_each(|(old, new)| *old = new);
+            }
+        }
+        self.history = None;
+        words.done()
+    }
+
+    fn ask(&mut self, word: &str, mut words: Words) -> Result<String, String> {
+        let path = if matches!(word, "find" | "read") { words.bytes()? } else { Vec::new() };
+        let slot = if word == "list" { words.number()? } else { 0 };
+        let mut output = lent(if word == "find" { 0 } else { words.length()? });
+        words.done()?;
+        let (refusal, numbers) = match word {
+            "open" => opened(&self.image, &mut output),
+            "find" => found(&self.image, &path),
+            "list" => listed(&self.image, slot, &mut output),
+            _ => {
+                let answer = read(&self.image, &path, &mut output);
+                (answer.refusal, vec![answer.length.into()])
+            }
+        };
+        let shown = (word != "find").then_some(output);
+        Ok(self.answer(word, refusal, &numbers, shown.as_deref()))
+    }
+
+    fn write(&mut self, word: &str, mut words: Words) -> Result<String, String> {
+        let block = if word == "format" { words.number()? } else { 0 };
+        let reserved = if word == "format" { words.number()? } else { 0 };
+        let path = if word == "reclaim" { Vec::new() } else { words.bytes()? };
+        let stamp = words.number()?;
+        let bytes = if word == "mkfile" { words.data()? } else { Vec::new() };
+        words.done()?;
+        let image = &mut self.image;
+        let (answer, told) = match word {
+            "format" => (format(image, block, reserved, &path, stamp), Told::Format { block }),
+            "mkfile" => (create_file(image, &path, stamp, &bytes), Told::File { path: &path, bytes: &bytes }),
+            "mkdir" => (create_directory(image, &path, stamp), Told::Directory { path: &path }),
+            "delete" => (delete(image, &path, stamp), Told::Delete { path: &path }),
+            _ => (reclaim(image, stamp), Told::Reclaim),
+        };
+        self.tell(told, answer.refusal == 0);
+        Ok(self.answer(word, answer.refusal, &[], None))
+    }
+
+    /// Without a history only an accepted format is heard: it starts one.
+    fn tell(&mut self, told: Told, accepted: bool) {
+        match (&mut self.history, told) {
+            (Some(history), _) => history.tell(told, accepted),
+            (None, Told::Format { block }) if accepted => self.history = Some(History::begin(block)),
+            _ => {}
+        }
+    }
+
+    fn listing(&mut self, mut words: Words) -> Result<String, String> {
+        words.done()?;
+        let text = listing(&self.image);
+        self.calls += 1;
+        Ok(format!("listing {}{}{}", text.len(), self.shown("text", &text), self.shown("img", &self.image)))
+    }
+
+    fn check(&self) -> String {
+        match self.history.as_ref().map(|history| history.check(&self.image)) {
+            None => "history none".to_string(),
+            Some(Ok(())) => "history ok".to_string(),
+            Some(Err(reason)) => format!("history FAILED {reason}"),
+        }
+    }
+
+    fn answer(&mut self, word: &str, refusal: Refusal, numbers: &[i128], output: Option<&[u8]>) -> String {
+        self.calls += 1;
+        self.last = refusal;
+        if let Some(met) = self.met.get_mut(usize::from(refusal)) {
+            *met += 1;
+        }
+        let numbers: String = numbers.iter().map(|number| format!(" {number}")).collect();
+        let output = output.map_or(String::new(), |output| self.shown("out", output));
+        format!("{word} {refusal}{numbers}{output}{}", self.shown("img", &self.image))
+    }
+
+    fn shown(&self, label: &str, bytes: &[u8]) -> String {
+        if self.digests {
+            format!(" {label}={:016x}", digest(bytes))
+        } else {
+            String::new()
+        }
+    }
+}
+
+type Numbers = (Refusal, Vec<i128>);
+
+fn opened(image: &[u8], output: &mut [u8]) -> Numbers {
+    let answer = open(image, output);
+    let sizes = [answer.total, answer.reserved, answer.block_length, answer.data, answer.index];
+    let mut numbers = vec![i128::from(answer.version)];
+    numbers.extend(sizes.map(i128::from));
+    numbers.extend([answer.super_block_stamp, answer.volume_stamp].map(i128::from));
+    numbers.push(answer.name_length.into());
+    (answer.refusal, numbers)
+}
+
+fn found(image: &[u8], path: &[u8]) -> Numbers {
+    let answer = find(image, path);
+    let mut numbers = [answer.slot, answer.kind.into(), answer.start, answer.end, answer.length].map(i128::from).to_vec();
+    numbers.push(answer.stamp.into());
+    (answer.refusal, numbers)
+}
+
+fn listed(image: &[u8], slot: u64, output: &mut [u8]) -> Numbers {
+    let answer = list(image, slot, output);
+    let mut numbers = [answer.slot, answer.kind.into(), answer.start, answer.end, answer.length].map(i128::from).to_vec();
+    numbers.extend([answer.stamp.into(), i128::from(answer.path_length)]);
+    (answer.refusal, numbers)
+}
