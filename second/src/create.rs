@@ -3,8 +3,8 @@
 use crate::answer::Written;
 use crate::bytes::put;
 use crate::index::{
-    COUNT_AT, DIRECTORY, DIRECTORY_NAME_AT, END_AT, FILE, FILE_NAME_AT, LENGTH_AT, MARKER, SLOT_LENGTH, START_AT,
-    STAMP_AT,
+    COUNT_AT, DIRECTORY, DIRECTORY_NAME_AT, END_AT, FILE, FILE_NAME_AT, LENGTH_AT, MARKER, SLOT_LENGTH, STAMP_AT,
+    START_AT,
 };
 use crate::names;
 use crate::refusal::{self, Refusal};
@@ -93,7 +93,7 @@ fn take_slots(volume: &Volume, wanted: u64) -> Result<(u64, Geometry), Refusal> 
         return Ok((slot, old));
     }
     let grown = Geometry { index: old.index + SLOT * wanted, ..old };
-    let meets_data = grown.ceiling().map_or(true, |ceiling| ceiling < old.data_end());
+    let meets_data = grown.ceiling().is_none_or(|ceiling| ceiling < old.data_end());
     if grown.index > MOST_INDEX || meets_data {
         return Err(refusal::NO_SLOTS);
     }

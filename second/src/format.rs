@@ -9,9 +9,7 @@ use crate::superblock::{self, Geometry, LEAST_INDEX};
 
 /// Formats the image: refusals 1, 5 and 10.
 pub fn format(image: &mut [u8], bytes_per_block: u64, reserved: u64, name: &[u8], stamp: i64) -> Written {
-    plan(image.len(), bytes_per_block, reserved, name)
-        .map(|geometry| carry_out(image, &geometry, name, stamp))
-        .into()
+    plan(image.len(), bytes_per_block, reserved, name).map(|geometry| carry_out(image, &geometry, name, stamp)).into()
 }
 
 fn plan(length: usize, block: u64, reserved: u64, name: &[u8]) -> Result<Geometry, Refusal> {

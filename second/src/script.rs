@@ -239,14 +239,16 @@ fn opened(image: &[u8], output: &mut [u8]) -> Numbers {
 
 fn found(image: &[u8], path: &[u8]) -> Numbers {
     let answer = find(image, path);
-    let mut numbers = [answer.slot, answer.kind.into(), answer.start, answer.end, answer.length].map(i128::from).to_vec();
+    let mut numbers =
+        [answer.slot, answer.kind.into(), answer.start, answer.end, answer.length].map(i128::from).to_vec();
     numbers.push(answer.stamp.into());
     (answer.refusal, numbers)
 }
 
 fn listed(image: &[u8], slot: u64, output: &mut [u8]) -> Numbers {
     let answer = list(image, slot, output);
-    let mut numbers = [answer.slot, answer.kind.into(), answer.start, answer.end, answer.length].map(i128::from).to_vec();
+    let mut numbers =
+        [answer.slot, answer.kind.into(), answer.start, answer.end, answer.length].map(i128::from).to_vec();
     numbers.extend([answer.stamp.into(), i128::from(answer.path_length)]);
     (answer.refusal, numbers)
 }

@@ -36,7 +36,9 @@ fn run_one(script: String, place: u64, tally: &mut Tally) {
                 checked = true;
                 tally.histories += 1;
             }
-            Ok(Some(text)) if text.starts_with("history FAILED") => tally.failures.push(format!("script {place}: {text}")),
+            Ok(Some(text)) if text.starts_with("history FAILED") => {
+                tally.failures.push(format!("script {place}: {text}"))
+            }
             Ok(_) => {}
             Err(reason) => tally.failures.push(format!("script {place}: {reason}: {line:.60}")),
         }

@@ -161,10 +161,10 @@ pub record Agree (s t : List ℕ) : Type 0 where
   pub superBlock : part s superBlockAt 42 ≡ part t superBlockAt 42
   pub index : drop (length s - volume .geometry .indexBytes) s ≡ drop (length t - volume .geometry .indexBytes) t
   pub files :
-    All
-    (λ e. part s (e .start * blockLength (volume .geometry)) (blocksOf e * blockLength (volume .geometry))
-    ≡ part t (e .start * blockLength (volume .geometry)) (blocksOf e * blockLength (volume .geometry)))
-    (only (λ e. isLive e && fileType (e .kind)) (entries volume))
+      All
+      (λ e. part s (e .start * blockLength (volume .geometry)) (blocksOf e * blockLength (volume .geometry))
+      ≡ part t (e .start * blockLength (volume .geometry)) (blocksOf e * blockLength (volume .geometry)))
+      (only (λ e. isLive e && fileType (e .kind)) (entries volume))
 
 -- equal answers: every number and every output byte
 pub record SameAnswer {A : Type 0} (o p : Outcome A) : Type 0 where

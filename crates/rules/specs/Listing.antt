@@ -11,7 +11,6 @@ use Rattle.rules.specs.Paths.{isLive}
 use Rattle.rules.specs.Refusals.{Verdict, refused, accepted, need, Volume, entries, judge}
 use Rattle.rules.specs.Dates.{decimal, momentOf, momentText}
 
-
 -- F or D, length, date and path
 unfoldable pub lineOf : Entry → List ℕ
 lineOf e =

@@ -61,10 +61,12 @@ fn number_argument(w: &mut Writer) {
 }
 
 fn format_argument(w: &mut Writer) {
-    let blocks = [0, 1, 64, 128, 255, 256, 257, 512, 768, 1024, 2048, 4096, 8192, 1 << 32, (1 << 32) + 512, 1 << 63, u64::MAX];
+    let blocks =
+        [0, 1, 64, 128, 255, 256, 257, 512, 768, 1024, 2048, 4096, 8192, 1 << 32, (1 << 32) + 512, 1 << 63, u64::MAX];
     let block = w.rng.pick(&blocks);
     let total = w.length().checked_div(block).unwrap_or(0);
-    let near = [0, 1, 2, 3, total, total.wrapping_sub(1), total.wrapping_sub(2), 1 << 32, (1 << 32) + 1, 1 << 55, u64::MAX];
+    let near =
+        [0, 1, 2, 3, total, total.wrapping_sub(1), total.wrapping_sub(2), 1 << 32, (1 << 32) + 1, 1 << 55, u64::MAX];
     let reserved = w.rng.pick(&near);
     let name = match w.rng.below(4) {
         0 => odd_path(&mut w.rng),

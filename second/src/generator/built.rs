@@ -3,7 +3,7 @@
 
 use super::{least_reserved, odd_path, path_of_length, Writer};
 use crate::bytes::put;
-use crate::index::{DELETED_DIRECTORY, DELETED_FILE, DIRECTORY, FILE, IDENTIFIER, MARKER, UNUSABLE};
+use crate::index::{DELETED_DIRECTORY, DELETED_FILE, DIRECTORY, FILE, IDENTIFIER, MARKER, UNUSABLE, UNUSED};
 use crate::superblock::{self, Geometry, CHECKSUM, MOST_INDEX, VERSION};
 use crate::xorshift::Xorshift;
 
@@ -15,6 +15,8 @@ struct Builder {
     slot: u64,
     block: u64,
     serial: u64,
+    /// What fills the bytes that nobody judges.
+    rubbish: u8,
     directories: Vec<Vec<u8>>,
 }
 
@@ -42,6 +44,8 @@ fn nearly_full_index(w: &mut Writer) {
     let reserved = least_reserved(block) + w.rng.below(2);
     let geometry = Geometry { image, block, total: image / block, reserved, data: 0, index };
     let mut builder = Builder::with(geometry, VERSION_1_0_ONLY, &mut w.rng);
+    // Keeps the pokes few: only the entries' first slots are not zeros.
+    builder.rubbish = 0;
     while builder.slot < geometry.slots() - 1 {
         let slots = (geometry.slots() - 1 - builder.slot).min(256);
         let kind = w.rng.pick(&[FILE, DIRECTORY, DELETED_DIRECTORY]);
@@ -80,14 +84,27 @@ impl Builder {
         let mut image = vec![0; geometry.image as usize];
         superblock::write(&mut image, &geometry, rng.step() as i64 >> 8);
         if rng.chance(newer) {
-            let version = rng.pick(&[0x11, 0x12, 0x1F, 0x20, 0x7F, 0x80, 0xFF]);
+            let version = 0x11 + rng.below(0xEF) as u8;
             put(&mut image, VERSION, &[version]);
             let checksum = superblock::sum(&image, CHECKSUM).wrapping_neg();
             put(&mut image, CHECKSUM, &[checksum]);
         }
         put(&mut image, geometry.slot_offset(0), &[MARKER]);
-        put(&mut image, geometry.slot_offset(geometry.slots() - 1), &[IDENTIFIER, 0, 0, 0, 7, 0, 0, 0, 0, 0, 0, 0, b'V']);
-        Builder { image, geometry, slot: 1, block: geometry.reserved, serial: 0, directories: vec![Vec::new()] }
+        put(
+            &mut image,
+            geometry.slot_offset(geometry.slots() - 1),
+            &[IDENTIFIER, 0, 0, 0, 7, 0, 0, 0, 0, 0, 0, 0, b'V'],
+        );
+        let rubbish = rng.pick(&[0, 0, 1, 2, 0x12, 0x41, 0xFF]);
+        Builder {
+            image,
+            geometry,
+            slot: 1,
+            block: geometry.reserved,
+            serial: 0,
+            rubbish,
+            directories: vec![Vec::new()],
+        }
     }
 
     /// Adds one slot or run of some kind.
@@ -111,9 +128,10 @@ impl Builder {
 
     /// An unused slot of any such type, with rubbish behind it.
     fn unused(&mut self, rng: &mut Xorshift) {
-        let kinds = [0, 3, 4, 9, 0x0F, 0x10, 0x10, 0x10, 0x13, 0x14, 0x17, 0x1B, 0x1C, 0x1F];
+        let kind = rng.below(0x20) as u8;
+        let used = matches!(kind, IDENTIFIER | MARKER | DIRECTORY | FILE | UNUSABLE | DELETED_DIRECTORY | DELETED_FILE);
         let mut slot = [rng.byte(); 64];
-        slot[0] = rng.pick(&kinds);
+        slot[0] = if used { UNUSED } else { kind };
         put(&mut self.image, self.geometry.slot_offset(self.slot), &slot);
         self.slot += 1;
     }
@@ -131,7 +149,9 @@ impl Builder {
 
     fn named(&mut self, rng: &mut Xorshift, kind: u8) {
         let directory = rng.pick(&self.directories);
-        self.serial += 1;
+        // A deleted entry may have the path of a live one.
+        let repeated = matches!(kind, DELETED_FILE | DELETED_DIRECTORY) && rng.chance(30);
+        self.serial += u64::from(!repeated);
         let length = if rng.chance(70) { 0 } else { rng.pick(&[29, 30, 53, 54, 94, 285, 286, 300, 414, 700]) };
         let path = path_of_length(&directory, length, self.serial);
         let is_file = matches!(kind, FILE | DELETED_FILE);
@@ -157,16 +177,18 @@ impl Builder {
     /// Writes an entry's run. Without a path it gets a short one of its own.
     fn entry(&mut self, kind: u8, slots: u64, path: &[u8], numbers: (u64, u64, u64)) {
         let name = if path.is_empty() { format!("n{}", self.slot).into_bytes() } else { path.to_vec() };
-        let mut run = vec![0; slots as usize * 64];
-        put(&mut run, 0, &[kind, (slots - 1) as u8]);
-        put(&mut run, 2, &(self.slot as i64 - 9).to_le_bytes());
+        let mut run = vec![self.rubbish; slots as usize * 64];
+        put(&mut run, 0, &[kind]);
         if matches!(kind, FILE | DELETED_FILE | UNUSABLE) {
             put(&mut run, 10, &numbers.0.to_le_bytes());
             put(&mut run, 18, &numbers.1.to_le_bytes());
             put(&mut run, 26, &numbers.2.to_le_bytes());
         }
         if kind != UNUSABLE {
-            put(&mut run, if matches!(kind, FILE | DELETED_FILE) { 34 } else { 10 }, &name);
+            put(&mut run, 1, &[(slots - 1) as u8]);
+            put(&mut run, 2, &(self.slot as i64 - 9).to_le_bytes());
+            let at = if matches!(kind, FILE | DELETED_FILE) { 34 } else { 10 };
+            put(&mut run, at, &[name.as_slice(), b"\0"].concat());
         }
         put(&mut self.image, self.geometry.slot_offset(self.slot), &run);
         self.slot += slots;
@@ -179,7 +201,8 @@ impl Builder {
         let other = 1 + rng.below(self.geometry.slots() - 2);
         let at = self.geometry.slot_offset(slot);
         let from = self.geometry.slot_offset(other);
-        match rng.below(4) {
+        match rng.below(5) {
+            4 => put(&mut self.image, at + 10, &(self.geometry.reserved + rng.below(4)).to_le_bytes()),
             0 => put(&mut self.image, at, &[rng.pick(&[0x01, 0x02, 0x20, 0x41, 0x7F, 0xFF])]),
             1 => put(&mut self.image, at, &[rng.below(0x20) as u8]),
             2 => put(&mut self.image, at + 1, &[rng.byte()]),

@@ -101,8 +101,23 @@ fn boundary(w: &mut Writer, healthy: &Healthy, current: u64) -> u64 {
     let Geometry { image, block, total, reserved, index, .. } = healthy.geometry;
     let end = healthy.geometry.data_end();
     let ceiling = healthy.geometry.ceiling().unwrap_or(0);
-    let centres =
-        [0, current, current, current, total, reserved, end, ceiling, ceiling - reserved, index, image, block, u64::MAX, 1 << 63, u64::MAX / block];
+    let centres = [
+        0,
+        current,
+        current,
+        current,
+        total,
+        reserved,
+        end,
+        ceiling,
+        ceiling - reserved,
+        index,
+        image,
+        block,
+        u64::MAX,
+        1 << 63,
+        u64::MAX / block,
+    ];
     let centre = w.rng.pick(&centres);
     match w.rng.below(4) {
         0 => centre,
@@ -114,7 +129,17 @@ fn boundary(w: &mut Writer, healthy: &Healthy, current: u64) -> u64 {
 
 /// One super-block field; the checksum is made right again more often than not.
 fn super_field(w: &mut Writer, healthy: &Healthy) {
-    let fields = [(STAMP, 8), (DATA, 8), (INDEX, 8), (TOTAL, 8), (RESERVED, 4), (VERSION, 1), (BLOCK_SIZE, 1), (MAGIC, 3), (CHECKSUM, 1)];
+    let fields = [
+        (STAMP, 8),
+        (DATA, 8),
+        (INDEX, 8),
+        (TOTAL, 8),
+        (RESERVED, 4),
+        (VERSION, 1),
+        (BLOCK_SIZE, 1),
+        (MAGIC, 3),
+        (CHECKSUM, 1),
+    ];
     let (at, width) = w.rng.pick(&fields);
     let mut current = [0; 8];
     current[..width].copy_from_slice(&healthy.image[at..at + width]);
@@ -165,7 +190,8 @@ fn name(w: &mut Writer, healthy: &Healthy, spot: &Spot) {
     match w.rng.below(6) {
         0 | 1 => {
             let place = w.rng.below(spot.name.len() as u64 + 1) as usize;
-            let byte = w.rng.pick(&[0, 1, 0x1F, 0x20, 0x7F, 0x80, 0xA0, 0xA1, b'/', b'.', b'"', b'*', b':', b'\\', 0xFF]);
+            let byte =
+                w.rng.pick(&[0, 1, 0x1F, 0x20, 0x7F, 0x80, 0xA0, 0xA1, b'/', b'.', b'"', b'*', b':', b'\\', 0xFF]);
             w.poke(at + place, &[byte]);
         }
         2 => {
@@ -210,7 +236,8 @@ fn marker(w: &mut Writer, healthy: &Healthy) {
 fn anywhere(w: &mut Writer, healthy: &Healthy) {
     let byte = w.rng.byte();
     let area = healthy.geometry.slot_offset(0) as u64;
-    let at = if w.rng.chance(60) { area + w.rng.below(healthy.geometry.index) } else { w.rng.below(healthy.geometry.image) };
+    let at =
+        if w.rng.chance(60) { area + w.rng.below(healthy.geometry.index) } else { w.rng.below(healthy.geometry.image) };
     w.poke(at as usize, &[byte]);
 }
 

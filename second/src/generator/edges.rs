@@ -4,8 +4,8 @@ use super::{least_reserved, volume_name, Writer};
 use crate::script::hex;
 
 const LENGTHS: [u64; 22] = [
-    0, 1, 64, 444, 445, 511, 512, 513, 768, 1023, 1024, 1024, 1025, 1280, 1536, 2048, 4096, 8192, 12_288, 65_536, 65_536,
-    65_537,
+    0, 1, 64, 444, 445, 511, 512, 513, 768, 1023, 1024, 1024, 1025, 1280, 1536, 2048, 4096, 8192, 12_288, 65_536,
+    65_536, 65_537,
 ];
 const LARGE: u64 = 16_777_216;
 
@@ -24,7 +24,10 @@ pub fn scene(w: &mut Writer) {
     let reserved = w.rng.pick(&[least, least, least, total.saturating_sub(2), total.saturating_sub(1)]);
     let name = volume_name(&mut w.rng);
     let refused = w.format(block, reserved, &name);
-    if refused == 0 {
+    if length >= LARGE {
+        // Digests of such images are slow, so they get one call only.
+        w.mkfile(b"f", 5000);
+    } else if refused == 0 {
         outputs(w, name.len() as u64, block);
     }
     w.put("listing".to_string());

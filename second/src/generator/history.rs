@@ -84,7 +84,8 @@ fn plain(w: &mut Writer) {
 
 /// A live directory's path, or the empty path for the root.
 fn some_directory(w: &mut Writer) -> Vec<u8> {
-    let mut directories: Vec<Vec<u8>> = w.live().into_iter().filter(|known| known.directory).map(|known| known.path).collect();
+    let mut directories: Vec<Vec<u8>> =
+        w.live().into_iter().filter(|known| known.directory).map(|known| known.path).collect();
     directories.push(Vec::new());
     w.rng.pick(&directories)
 }
@@ -154,7 +155,8 @@ fn create_empty(w: &mut Writer) {
 
 fn create_directory(w: &mut Writer) {
     let path = if w.rng.chance(50) {
-        let directory = w.live().into_iter().filter(|known| known.directory).map(|known| known.path).max_by_key(Vec::len);
+        let directory =
+            w.live().into_iter().filter(|known| known.directory).map(|known| known.path).max_by_key(Vec::len);
         let serial = w.serial();
         path_of_length(&directory.unwrap_or_default(), 0, serial)
     } else {

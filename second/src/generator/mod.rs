@@ -26,7 +26,7 @@ const FAMILIES: [(&str, u64, Scene); 5] = [
 
 /// A script of about `count` calls, of one family or mixed; nothing when there is no such family.
 pub fn script(seed: u64, count: u64, kind: Option<&str>) -> Option<String> {
-    let known = kind.map_or(true, |kind| FAMILIES.iter().any(|family| family.0 == kind));
+    let known = kind.is_none_or(|kind| FAMILIES.iter().any(|family| family.0 == kind));
     if !known {
         return None;
     }
@@ -226,18 +226,21 @@ fn known(entry: &Entry) -> Known {
     Known { path: entry.path.to_vec(), directory: entry.kind == 0x11, length: entry.length, slot: entry.slot }
 }
 
-/// Path arguments that are refused, or look as if they should be.
+/// Short path arguments that are refused, or look as if they should be.
+#[rustfmt::skip]
+const ODD_PATHS: [&[u8]; 36] = [
+    b"", b"/", b".", b"..", b"a//b", b"/a", b"a/", b"a/./b", b"a/../b", b"./a", b"a/..", b"\0", b"a\0", b"a\x1f",
+    b"\x7f", b"a\x80", b"\xa0", b"\xa1", b"\x20", b"a\"b", b"*", b":", b"<a", b"a>", b"?", b"a\\b", b"...", b".a",
+    b"a.", b"..a", b"~", b"\xc3\xa4", b"\xff", b"a/\x01", b"a/b/c/d/e/f", b"no/such",
+];
+
+/// One of the odd paths, at times a long one.
 pub fn odd_path(rng: &mut Xorshift) -> Vec<u8> {
-    let odd: [&[u8]; 36] = [
-        b"", b"/", b".", b"..", b"a//b", b"/a", b"a/", b"a/./b", b"a/../b", b"./a", b"a/..", b"\0", b"a\0", b"a\x1f",
-        b"\x7f", b"a\x80", b"\xa0", b"\xa1", b"\x20", b"a\"b", b"*", b":", b"<a", b"a>", b"?", b"a\\b", b"...", b".a",
-        b"a.", b"..a", b"~", b"\xc3\xa4", b"\xff", b"a/\x01", b"a/b/c/d/e/f", b"no/such",
-    ];
     match rng.below(40) {
         0 => vec![b'q'; 285],
         1 | 2 => vec![b'q'; 286],
         3 => vec![b'q'; 300 + rng.below(500) as usize],
-        _ => rng.pick(&odd).to_vec(),
+        _ => rng.pick(&ODD_PATHS).to_vec(),
     }
 }
 

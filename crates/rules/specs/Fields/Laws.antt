@@ -9,7 +9,11 @@ use lib.ListN.{replicate, length, getD, take, drop, set, length-append, length-t
 use lib.Seq.{drop-cons, drop-append-add, drop-drop, take-at, drop-length, take-suc-set, drop-set-lt, getD-append-add, getD-take, getD-drop, length-take-le, getD-append-seam, append-snoc}
 use borrow.Rule.Slice.PartMut.{putMid, post-is}
 use lib.Pow.{pow-add}
-use Rattle.rules.specs.Fields.{le, leBytes, splice}
+use borrow.Author.Tests.{eq-eqb}
+use lib.Dec.{eqb}
+use mathlib.Core.Bool.{true}
+use Rattle.rules.specs.Lists.{sum}
+use Rattle.rules.specs.Fields.{le, leBytes, splice, byteSum, checks, checksumOf}
 
 -- ---- le
 
@@ -222,3 +226,31 @@ module _ (w v : ℕ) (s : List ℕ) (at : ℕ) (fits : at + w ≤ length s) wher
 
   pub le-put-after : (u a : ℕ) → at + w ≤ a → le u (splice s at (leBytes w v)) a ≡ le u s a
   le-put-after u a h = le-splice-after s at (leBytes w v) (rw length-leBytes fits) u a (rw length-leBytes h)
+
+-- ---- sums of bytes
+pub byteSum-nil : byteSum [] ≡ 0
+unfolding byteSum sum
+byteSum-nil = refl
+
+pub byteSum-cons : (b : ℕ) (bs : List ℕ) → byteSum (b ∷ bs) ≡ b + byteSum bs
+unfolding byteSum sum
+byteSum-cons b bs = refl
+
+pub byteSum-append : (xs ys : List ℕ) → byteSum (xs ++ ys) ≡ byteSum xs + byteSum ys
+unfolding byteSum sum
+byteSum-append [] ys = omega arith
+byteSum-append (x ∷ xs) ys = omega (arith, byteSum-append xs ys)
+
+-- a turn of a loop that sums modulo 256
+pub sum-turn : (s : List ℕ) (i r : ℕ) → i < length s → ((r + getD s i 0) % 256 + byteSum (drop (i + 1) s)) % 256 ≡ (r + byteSum (drop i s)) % 256
+sum-turn s i r h =
+    let e : byteSum (drop i s) ≡ getD s i 0 + byteSum (drop (i + 1) s) = ap byteSum (drop-cons s i 0 h) ∙ rw (byteSum-cons, add-one) in
+    omega arith
+
+-- bytes with their checksum behind them check
+pub checks-sealed : (bs : List ℕ) → checks (bs ++ (checksumOf bs ∷ [])) ≡ true
+unfolding checks checksumOf
+checks-sealed bs =
+    let e : byteSum (bs ++ ((256 - byteSum bs % 256) % 256 ∷ [])) ≡ byteSum bs + (256 - byteSum bs % 256) % 256 =
+    byteSum-append bs ((256 - byteSum bs % 256) % 256 ∷ []) ∙ rw (byteSum-cons, byteSum-nil) (omega arith) in
+    eq-eqb (byteSum (bs ++ ((256 - byteSum bs % 256) % 256 ∷ [])) % 256) 0 (omega arith)

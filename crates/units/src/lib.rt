@@ -1,0 +1,96 @@
+// Block numbers, slot numbers and byte offsets: three units, converted only by the functions here.
+
+ghost use mathlib.Core.Path.{_≡_};
+ghost use Prim.Native.Nat.{_+_, _-_, _*_, _/_, _≤_, _<_};
+
+// The longest image, in bytes: no offset lies past it.
+pub const LONGEST: u64 = 16_777_216;
+
+// The bytes of a slot of the index area.
+pub const SLOT_BYTES: u64 = 64;
+
+// A block number, from the start of the media, or the block past a region's end.
+pub struct Block(pub u64);
+
+// A slot number of the index area.
+pub struct Slot(pub u64);
+
+// A place in the image, in bytes.
+pub struct Offset(pub usize);
+
+impl Block {
+    // The first byte of the block; `len` is the block length.
+    pub fn offset(self, len: u64) -> Offset
+        requires { ⌜ self .0 * len ≤ 16_777_216 ⌝ }
+        ensures { λ r. ⌜ (r .0 ≡ self .0 * len) × (r .0 ≤ 16_777_216) ⌝ }
+    {
+        Offset((self.0 * len) as usize)
+    }
+
+    // The block past a region of so many blocks that starts here.
+    pub fn after(self, blocks: u64) -> Block
+        requires { ⌜ self .0 + blocks ≤ 16_777_216 ⌝ }
+        ensures { λ r. ⌜ r .0 ≡ self .0 + blocks ⌝ }
+    {
+        Block(self.0 + blocks)
+    }
+
+    // How many blocks lie from here up to `end`.
+    pub fn blocks_to(self, end: Block) -> u64
+        requires { ⌜ self .0 ≤ end .0 ⌝ }
+        ensures { λ r. ⌜ r ≡ end .0 - self .0 ⌝ }
+    {
+        end.0 - self.0
+    }
+}
+
+impl Slot {
+    // The first byte of the slot, in an index area that starts at `index`.
+    pub fn offset(self, index: Offset) -> Offset
+        requires { ⌜ index .0 + 64 * self .0 ≤ 16_777_216 ⌝ }
+        ensures { λ r. ⌜ (r .0 ≡ index .0 + 64 * self .0) × (r .0 ≤ 16_777_216) ⌝ }
+    {
+        Offset(index.0 + (64 * self.0) as usize)
+    }
+
+    // The slot so many slots further.
+    pub fn after(self, slots: u64) -> Slot
+        requires { ⌜ self .0 + slots ≤ 16_777_216 ⌝ }
+        ensures { λ r. ⌜ r .0 ≡ self .0 + slots ⌝ }
+    {
+        Slot(self.0 + slots)
+    }
+}
+
+impl Offset {
+    // The place so many bytes further.
+    pub fn after(self, bytes: u64) -> Offset
+        requires { ⌜ self .0 + bytes ≤ 16_777_216 ⌝ }
+        ensures { λ r. ⌜ r .0 ≡ self .0 + bytes ⌝ }
+    {
+        Offset(self.0 + bytes as usize)
+    }
+
+    // The block that the place lies in.
+    pub fn block(self, len: u64) -> Block
+        requires { ⌜ 0 < len ⌝ }
+        ensures { λ r. ⌜ r .0 ≡ self .0 / len ⌝ }
+    {
+        Block(self.0 as u64 / len)
+    }
+}
+
+// Where an index area of `index` bytes starts, at the end of an image of `image` bytes.
+pub fn index_start(image: u64, index: u64) -> Offset
+    requires { ⌜ (index ≤ image) × (image ≤ 16_777_216) ⌝ }
+    ensures { λ r. ⌜ (r .0 ≡ image - index) × (r .0 ≤ 16_777_216) ⌝ }
+{
+    Offset((image - index) as usize)
+}
+
+// How many slots an index area has.
+pub fn slots_in(index: u64) -> u64
+    ensures { λ r. ⌜ r ≡ index / 64 ⌝ }
+{
+    index / 64
+}

@@ -1,0 +1,157 @@
+//! Generated scripts: histories with their check, and that every refusal is met.
+
+use second::generator;
+use second::history::{History, Told};
+use second::script::{digest, lent, Session};
+use second::selftest;
+use second::xorshift::{fill, Xorshift};
+
+#[test]
+fn histories_hold() {
+    let tally = selftest::run(20_260_101, 3_200);
+    println!("{tally}");
+    assert!(tally.failures.is_empty(), "{:?}", tally.failures);
+    assert!(tally.histories >= 3_000);
+    for (number, met) in tally.met.iter().enumerate() {
+        assert!(*met > 0, "refusal {number} was never met");
+    }
+}
+
+#[test]
+fn scripts_are_the_same_every_time() {
+    for kind in ["history", "damage", "built", "edges", "args"] {
+        let script = generator::script(3, 200, Some(kind));
+        assert!(script.as_ref().is_some_and(|script| script.len() > 1000));
+        assert_eq!(script, generator::script(3, 200, Some(kind)));
+        assert_ne!(script, generator::script(4, 200, Some(kind)));
+    }
+    assert_eq!(generator::script(3, 10, Some("nonsense")), None);
+}
+
+#[test]
+fn scripts_can_be_read() {
+    let mut session = Session::default();
+    let script = generator::script(11, 10_000, None).unwrap_or_default();
+    for line in script.lines() {
+        let answer = session.execute(line);
+        assert!(answer.is_ok(), "{answer:?} {line}");
+        assert!(!answer.is_ok_and(|text| text.is_some_and(|text| text.contains("FAILED"))), "{line}");
+    }
+    assert!(session.calls >= 10_000);
+}
+
+/// Runs a script and gives the lines it prints.
+fn printed(script: &str) -> Vec<String> {
+    let mut session = Session::default();
+    script.lines().filter_map(|line| session.execute(line).unwrap()).collect()
+}
+
+#[test]
+fn lines_are_as_described() {
+    assert_eq!(digest(b""), 0xCBF2_9CE4_8422_2325);
+    assert_eq!(digest(b"a"), 0xAF63_DC4C_8601_EC8C);
+    assert_eq!(lent(4), [0xA5, 0xA2, 0xAB, 0xB0]);
+    assert_eq!(fill(3, 0), fill(3, 0x9E37_79B9_7F4A_7C15));
+    let script =
+        "# nothing\n\nopen 0\nimage 8192\nhistory\nformat 512 1 5445 -5\nopen 3\nmkfile 61 9 616263\nlist 0 1\n\
+                  read 61 2\nfind 61\nhistory\npoke 9000 00\nhistory\n";
+    let lines = printed(script);
+    let bare: Vec<&str> =
+        lines.iter().map(|line| line.split(" out=").next().unwrap().split(" img=").next().unwrap()).collect();
+    let expected = [
+        "open 1 0 0 0 0 0 0 0 0 0",
+        "history none",
+        "format 0",
+        "open 0 16 16 1 512 0 128 -5 -5 2",
+        "mkfile 0",
+        "list 0 1 18 1 2 3 9 1",
+        "read 18 0",
+        "find 0 1 18 1 2 3 9",
+        "history ok",
+        "history none",
+    ];
+    assert_eq!(bare, expected);
+    assert_eq!(lines[0], "open 1 0 0 0 0 0 0 0 0 0 out=cbf29ce484222325 img=cbf29ce484222325");
+}
+
+#[test]
+fn lines_that_cannot_be_read() {
+    for line in [
+        "nonsense",
+        "open",
+        "open x",
+        "open 17000001",
+        "find 6",
+        "find 6g",
+        "poke 1",
+        "mkdir 61",
+        "open 1 2",
+        "mkfile 61 1 fill:3",
+    ] {
+        assert!(Session::default().execute(line).is_err(), "{line}");
+    }
+}
+
+#[test]
+fn any_image_gets_an_answer() {
+    // A good super-block before random index bytes of low values, so that the walk goes far.
+    let mut rng = Xorshift::new(99);
+    let mut met = [0; 19];
+    for round in 0..4_000 {
+        let mut session = Session::default();
+        let mut lines = vec!["image 2048".to_string(), "format 256 2 - 0".to_string()];
+        lines.push(format!("poke {} {:02x}", 0x1A4, 128 + 64 * rng.below(2)));
+        for _ in 0..rng.below(12) {
+            let at = if rng.chance(80) { 2048 - rng.below(256) } else { 0x194 + rng.below(42) };
+            lines.push(format!("poke {at} {:02x}", rng.pick(&[0, 1, 2, 0x11, 0x12, 0x18, 0x1A, 0x41, 0xFF])));
+        }
+        lines.extend(
+            [
+                "open 51",
+                "find 41",
+                "list 0 300",
+                "read 41 99",
+                "mkfile 42 1 fill:300:1",
+                "delete 41 1",
+                "reclaim 1",
+                "listing",
+            ]
+            .map(String::from),
+        );
+        for line in lines {
+            assert!(session.execute(&line).is_ok(), "{round} {line}");
+        }
+        met.iter_mut().zip(session.met).for_each(|(sum, number)| *sum += number);
+    }
+    assert!(met[6] > 0 && met[0] > 0);
+}
+
+#[test]
+fn the_check_notices() {
+    let mut image = vec![0; 8192];
+    assert_eq!(second::format(&mut image, 512, 1, b"", 0).refusal, 0);
+    let mut history = History::begin(512);
+    for (path, bytes) in [(b"a", [1; 600]), (b"b", [2; 600])] {
+        assert_eq!(second::create_file(&mut image, path, 0, &bytes).refusal, 0);
+        history.tell(Told::File { path, bytes: &bytes }, true);
+    }
+    assert_eq!(history.check(&image), Ok(()));
+    // A changed byte, a lost entry, a longer region, a shared block, another kind.
+    let entry = image.len() - 192;
+    for (at, byte) in [(520, 9), (entry, 0x10), (entry + 18, 6), (entry + 10, 0), (entry, 0x1A), (entry + 34, b'c')] {
+        let mut other = image.clone();
+        other[at] = byte;
+        assert!(history.check(&other).is_err(), "{at} {byte}");
+    }
+    let mut later = history.clone();
+    later.tell(Told::Delete { path: b"a" }, false);
+    assert_eq!(later.check(&image), Ok(()));
+    later.tell(Told::Delete { path: b"a" }, true);
+    assert!(later.check(&image).is_err());
+    assert_eq!(second::delete(&mut image, b"a", 0).refusal, 0);
+    assert_eq!(later.check(&image), Ok(()));
+    later.tell(Told::Reclaim, true);
+    assert!(later.check(&image).is_err());
+    assert_eq!(second::reclaim(&mut image, 0).refusal, 0);
+    assert_eq!(later.check(&image), Ok(()));
+}
