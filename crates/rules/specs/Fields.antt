@@ -6,6 +6,7 @@ use lib.ListN.{length, getD, take, drop}
 use lib.Dec.{eqb, ltb}
 use lib.IntN.{ℤ, pos, negsuc}
 pub mod Laws
+pub mod Signed
 use Rattle.rules.specs.Lists.{pick, sum, part}
 
 -- the byte at a place; 0 past the end

@@ -9,6 +9,8 @@ use Rattle.rules.specs.Lists.{pick, all, padded, part}
 use Rattle.rules.specs.Fields.{byteAt, le, leBytes, stampIn, stampBytes, upToZero, hasZero}
 use Rattle.rules.specs.SuperBlock.{Geometry}
 use Rattle.rules.specs.Names.{pathGood, volumeTextGood}
+pub mod Walk
+pub mod Frame
 
 -- ---- the types that a slot's first byte says
 abbrev pub typeIdentifier : ℕ

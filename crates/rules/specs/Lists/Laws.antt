@@ -6,7 +6,8 @@ use mathlib.Core.List.{List, [], _∷_, _++_}
 use mathlib.Core.Option.{Option, none, some}
 use native.Mathlib.Omega.{arith}
 use lib.ListN.{length, getD, take, drop, replicate, length-append, length-replicate, length-take, length-drop}
-use lib.Seq.{getD-take, getD-drop, length-take-le}
+use native.Mathlib.Nat.{zero-add, suc-add}
+use lib.Seq.{getD-take, getD-drop, length-take-le, take-nil}
 use lib.Dec.{eqb}
 use borrow.Author.Tests.{eq-eqb, eqb-true}
 use Rattle.rules.specs.Lists.{pick, all, any, everyTwo, keepIf, only, firstIf, first, isSome, eqList, part, padded}
@@ -135,3 +136,8 @@ getD-part s at n i h = getD-take n (drop at s) i 0 h ∙ getD-drop at s i 0
 pub length-padded : (xs : List ℕ) (n : ℕ) → length xs ≤ n → length (padded xs n) ≡ n
 unfolding padded
 length-padded xs n h = length-append xs (replicate (n - length xs) 0) ∙ ap (λ (k : ℕ). length xs + k) (length-replicate (n - length xs) 0) ∙ omega arith
+
+pub drop-take : (n m : ℕ) (xs : List ℕ) → drop n (take (n + m) xs) ≡ take m (drop n xs)
+drop-take zero m xs = rw zero-add
+drop-take (suc n) m [] = rw (suc-add, take-nil)
+drop-take (suc n) m (x ∷ xs) = rw suc-add (drop-take n m xs)

@@ -1,0 +1,67 @@
+-- What an accepted writing call leaves: the image opens again, and what the history sees of its entries has changed as told.
+use Prim.Native.Nat.{ℕ, _+_}
+use mathlib.Core.Path.{_≡_}
+use mathlib.Core.Bool.{Bool, true, false}
+use mathlib.Core.List.{List, [], _∷_, map}
+use lib.IntN.{ℤ}
+use Rattle.rules.specs.Lists.{only, pick, Perm}
+use Rattle.rules.specs.SuperBlock.{Geometry, blockLength}
+use Rattle.rules.specs.Index.{Entry, runType, fileType, typeFile, typeDirectory}
+use Rattle.rules.specs.Regions.{blocksOf}
+use Rattle.rules.specs.Paths.{isLive}
+use Rattle.rules.specs.Refusals.{accepted, Volume, entries, judge}
+use Rattle.rules.specs.Reading.{fileBytes}
+use Rattle.rules.specs.Writing.{New, formatOf, createOf, deleteOf, reclaimOf}
+use Rattle.rules.specs.History.{Kept, keptOf, marked}
+
+-- files and directories, live or deleted; an unusable entry is none
+unfoldable pub isNamed : Entry → Bool
+isNamed e = runType (e .kind)
+
+-- what the history sees of an entry
+unfoldable pub seen : List ℕ → Geometry → Entry → Kept
+seen s g e = record {
+  path = e .path;
+  kind = pick (fileType (e .kind)) typeFile typeDirectory;
+  bytes = fileBytes s g e;
+  blocks = blocksOf e;
+  live = isLive e;
+}
+
+-- all that it sees of a volume
+unfoldable pub sight : List ℕ → Volume → List Kept
+sight s v = map (seen s (v .geometry)) (only isNamed (entries v))
+
+-- the image t opens, its blocks are of `block` bytes, and what is seen of it is `told`, in some order
+pub record Left (t : List ℕ) (block : ℕ) (told : List Kept) : Type 0 where
+  pub volume : Volume
+  pub opens : judge t ≡ accepted volume
+  pub blocks : blockLength (volume .geometry) ≡ block
+  pub agree : Perm (sight t volume) told
+
+abbrev pub AfterFormat : Type 0
+AfterFormat =
+    (s : List ℕ) (bytesPerBlock reserved : ℕ) (name : List ℕ) (stamp : ℤ)
+    → formatOf s bytesPerBlock reserved name stamp .refusal ≡ 0
+    → Left (formatOf s bytesPerBlock reserved name stamp .image) bytesPerBlock []
+
+abbrev pub AfterCreate : Type 0
+AfterCreate =
+    (s : List ℕ) (v : Volume) (new : New) (path : List ℕ) (stamp : ℤ)
+    → judge s ≡ accepted v
+    → createOf s new path stamp .refusal ≡ 0
+    → Left (createOf s new path stamp .image) (blockLength (v .geometry)) (keptOf (blockLength (v .geometry)) new path ∷ sight s v)
+
+abbrev pub AfterDelete : Type 0
+AfterDelete =
+    (s : List ℕ) (v : Volume) (path : List ℕ) (stamp : ℤ)
+    → judge s ≡ accepted v
+    → deleteOf s path stamp .refusal ≡ 0
+    → Left (deleteOf s path stamp .image) (blockLength (v .geometry)) (map (marked path) (sight s v))
+
+abbrev pub AfterReclaim : Type 0
+AfterReclaim =
+    (s : List ℕ) (v : Volume) (stamp : ℤ)
+    → judge s ≡ accepted v
+    → reclaimOf s stamp .refusal ≡ 0
+    → Left (reclaimOf s stamp .image) (blockLength (v .geometry)) (only (λ k. k .live) (sight s v))
