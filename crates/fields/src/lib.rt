@@ -3,7 +3,7 @@
 ghost use mathlib.Core.Path.{_≡_};
 ghost use Prim.Native.Nat.{_+_, _*_, _%_, _^_, _≤_, _<_};
 ghost use lib.ListN.{length};
-ghost use Rattle.rules.specs.Fields.{le, leBytes, splice, byteSum, checks, checksumOf};
+ghost use Rattle.rules.specs.Fields.{le, leBytes, splice, byteSum, checks, checksumOf, upToZero};
 
 // A byte as a number; that it is below 256 is said once, here.
 pub fn wide(x: u8) -> u64
@@ -81,4 +81,18 @@ pub fn checksum(s: &[u8]) -> u8
     ensures { λ r. ⌜ r ≡ checksumOf (now (s .entry)) ⌝ }
 {
     ((256 - sum_of(s)) % 256) as u8
+}
+
+// Where the first zero byte lies; the length where there is none.
+pub fn zero_at(s: &[u8]) -> usize
+    ensures { λ r. ⌜ (r ≡ length (upToZero (now (s .entry)))) × (r ≤ length (now (s .entry))) ⌝ }
+{
+    let mut i = 0;
+    while i < s.len() {
+        if s[i] == 0 {
+            return i;
+        }
+        i += 1;
+    }
+    i
 }

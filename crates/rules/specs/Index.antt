@@ -11,6 +11,8 @@ use Rattle.rules.specs.SuperBlock.{Geometry}
 use Rattle.rules.specs.Names.{pathGood, volumeTextGood}
 pub mod Walk
 pub mod Frame
+pub mod Items
+pub mod Laws
 
 -- ---- the types that a slot's first byte says
 abbrev pub typeIdentifier : ℕ

@@ -6,6 +6,7 @@ use mathlib.Core.Option.{Option, none, some}
 use lib.ListN.{length}
 use lib.Dec.{eqb, ltb, leb}
 use Rattle.rules.specs.Lists.{pick, all, any, eqList}
+pub mod Laws
 
 abbrev pub slash : ℕ
 slash = 0x2F

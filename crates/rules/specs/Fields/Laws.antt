@@ -9,11 +9,13 @@ use lib.ListN.{replicate, length, getD, take, drop, set, length-append, length-t
 use lib.Seq.{drop-cons, drop-append-add, drop-drop, take-at, drop-length, take-suc-set, drop-set-lt, getD-append-add, getD-take, getD-drop, length-take-le, getD-append-seam, append-snoc}
 use borrow.Rule.Slice.PartMut.{putMid, post-is}
 use lib.Pow.{pow-add}
-use borrow.Author.Tests.{eq-eqb}
-use lib.Dec.{eqb}
+use borrow.Author.Tests.{eq-eqb, ne-eqb, lt-ltb}
+use native.Mathlib.Decide.{ℕ-discrete}
+use Rattle.rules.specs.Lists.Laws.{pick-true, pick-false}
+use lib.Dec.{eqb, ltb, leb·suc-suc}
 use mathlib.Core.Bool.{true}
 use Rattle.rules.specs.Lists.{sum}
-use Rattle.rules.specs.Fields.{le, leBytes, splice, byteSum, checks, checksumOf}
+use Rattle.rules.specs.Fields.{le, leBytes, splice, byteSum, checks, checksumOf, upToZero, hasZero}
 
 -- ---- le
 
@@ -254,3 +256,52 @@ checks-sealed bs =
     let e : byteSum (bs ++ ((256 - byteSum bs % 256) % 256 ∷ [])) ≡ byteSum bs + (256 - byteSum bs % 256) % 256 =
     byteSum-append bs ((256 - byteSum bs % 256) % 256 ∷ []) ∙ rw (byteSum-cons, byteSum-nil) (omega arith) in
     eq-eqb (byteSum (bs ++ ((256 - byteSum bs % 256) % 256 ∷ [])) % 256) 0 (omega arith)
+
+-- ---- up to the first zero
+pub zero-cons : (b : ℕ) (bs : List ℕ) → (b ≡ 0 → ⊥) → upToZero (b ∷ bs) ≡ b ∷ upToZero bs
+unfolding upToZero
+zero-cons b bs h = pick-false _ _ (ne-eqb b 0 h)
+
+pub zero-here : (b : ℕ) (bs : List ℕ) → b ≡ 0 → upToZero (b ∷ bs) ≡ []
+unfolding upToZero
+zero-here b bs h = pick-true _ _ (eq-eqb b 0 h)
+
+-- it is where the first zero lies, and there is one if that is inside
+zero-by : (b : ℕ) (bs : List ℕ) → upToZero bs ≡ take (length (upToZero bs)) bs → Dec (b ≡ 0) → upToZero (b ∷ bs) ≡ take (length (upToZero (b ∷ bs))) (b ∷ bs)
+zero-by b bs e (yes h) = rw (zero-here b bs h)
+zero-by b bs e (no h) = rw (zero-cons b bs h) (ap (λ (x : List ℕ). b ∷ x) e)
+
+pub upToZero-take : (s : List ℕ) → upToZero s ≡ take (length (upToZero s)) s
+unfolding upToZero
+upToZero-take [] = refl
+upToZero-take (b ∷ bs) = zero-by b bs (upToZero-take bs) (ℕ-discrete b 0)
+
+has-by : (b : ℕ) (bs : List ℕ) → hasZero bs ≡ ltb (length (upToZero bs)) (length bs) → Dec (b ≡ 0) → hasZero (b ∷ bs) ≡ ltb (length (upToZero (b ∷ bs))) (suc (length bs))
+unfolding hasZero
+has-by b bs e (yes h) = rw (zero-here b bs h, eq-eqb b 0 h) (sym (lt-ltb 0 (suc (length bs)) (omega arith)))
+has-by b bs e (no h) = rw (zero-cons b bs h, ne-eqb b 0 h) (e ∙ sym (leb·suc-suc (suc (length (upToZero bs))) (length bs)))
+
+pub hasZero-ltb : (s : List ℕ) → hasZero s ≡ ltb (length (upToZero s)) (length s)
+unfolding hasZero upToZero
+hasZero-ltb [] = refl
+hasZero-ltb (b ∷ bs) = has-by b bs (hasZero-ltb bs) (ℕ-discrete b 0)
+
+-- turns of a loop that looks for it
+pub zero-more : (s : List ℕ) (i : ℕ) → i < length s → (getD s i 0 ≡ 0 → ⊥) → (i + 1) + length (upToZero (drop (i + 1) s)) ≡ i + length (upToZero (drop i s))
+zero-more s i h z =
+    let e : upToZero (drop i s) ≡ getD s i 0 ∷ upToZero (drop (i + 1) s) =
+    ap upToZero (drop-cons s i 0 h) ∙ zero-cons (getD s i 0) (drop (suc i) s) z ∙ rw add-one in
+    rw e (omega arith)
+
+pub zero-found : (s : List ℕ) (i : ℕ) → i < length s → getD s i 0 ≡ 0 → i ≡ i + length (upToZero (drop i s))
+zero-found s i h z =
+    let e : upToZero (drop i s) ≡ [] = ap upToZero (drop-cons s i 0 h) ∙ zero-here (getD s i 0) (drop (suc i) s) z in
+    rw e (omega arith)
+
+pub zero-none : (s : List ℕ) (i : ℕ) → i ≡ length s → i ≡ i + length (upToZero (drop i s))
+unfolding upToZero
+zero-none s i h = rw (h, drop-length) (omega arith)
+
+-- a number in what is left of a list
+pub le-drop : (w : ℕ) (s : List ℕ) (at o : ℕ) → le w (drop at s) o ≡ le w s (at + o)
+le-drop w s at o = le-ext w (drop at s) s o (at + o) (λ i h. getD-drop at s (o + i) 0 ∙ ap (λ (k : ℕ). getD s k 0) (omega arith))

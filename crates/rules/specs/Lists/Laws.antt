@@ -141,3 +141,7 @@ pub drop-take : (n m : ℕ) (xs : List ℕ) → drop n (take (n + m) xs) ≡ tak
 drop-take zero m xs = rw zero-add
 drop-take (suc n) m [] = rw (suc-add, take-nil)
 drop-take (suc n) m (x ∷ xs) = rw suc-add (drop-take n m xs)
+
+pub or-none : (a b : Bool) → b ≡ false → (a || b) ≡ a
+or-none true b e = refl
+or-none false b e = e

@@ -1,0 +1,1 @@
+// Demand 3: after every list of calls the image is as the history says. See proofs/. There is no code here.

@@ -1,0 +1,160 @@
+-- Laws of names and paths: by cases, joined by a slash, and what is sure of one that is good.
+use Prim.Native.Nat.{ℕ, _≤_, _<_}
+use mathlib.Core.Path.{_≡_, refl, sym, ap, ap₂, _∙_}
+use mathlib.Core.Bool.{Bool, true, false, _&&_, not}
+use mathlib.Core.List.{List, [], _∷_, _++_}
+use native.Mathlib.Omega.{arith}
+use lib.ListN.{length}
+use lib.Dec.{eqb, leb}
+use borrow.Author.Tests.{ne-eqb, le-leb, lt-leb, leb-true}
+use Rattle.rules.specs.Lists.{pick, all, any, eqList}
+use Rattle.rules.specs.Lists.Laws.{clash, pick-false, and-true, and-both, all-append}
+use Rattle.rules.specs.Fields.{upToZero, hasZero}
+use Rattle.rules.specs.Names.{slash, isMark, byteGood, textGood, intoFirst, parts, partGood, pathGood, newPathGood, volumeTextGood, volumeNameGood}
+
+-- ---- bytes
+module _ (b : ℕ) where
+  pub byte-low : b < 0x20 → byteGood b ≡ false
+  unfolding byteGood
+  byte-low h = rw (lt-leb 0x20 b h)
+
+  pub byte-control : 0x20 ≤ b → leb 0x7F b ≡ true → leb b 0xA0 ≡ true → byteGood b ≡ false
+  unfolding byteGood
+  byte-control h e f = rw (le-leb 0x20 b h, e, f)
+
+  pub byte-rest : 0x20 ≤ b → (leb 0x7F b && leb b 0xA0) ≡ false → b ≤ 0xFF → byteGood b ≡ not (isMark b)
+  unfolding byteGood
+  byte-rest h e k = rw (le-leb 0x20 b h, e, le-leb b 0xFF k)
+
+pub byte-zero : byteGood 0 ≡ false
+byte-zero = byte-low 0 (omega arith)
+
+pub byte-slash : byteGood slash ≡ true
+unfolding byteGood isMark any
+byte-slash = refl
+
+-- ---- texts, byte by byte. The two laws after `text-nil` hold of a rule on single bytes alone.
+pub text-nil : textGood [] ≡ true
+unfolding textGood all
+text-nil = refl
+
+pub text-cons : (b : ℕ) (bs : List ℕ) → textGood (b ∷ bs) ≡ (byteGood b && textGood bs)
+unfolding textGood all
+text-cons b bs = refl
+
+pub text-append : (xs ys : List ℕ) → textGood (xs ++ ys) ≡ (textGood xs && textGood ys)
+unfolding textGood
+text-append xs ys = all-append byteGood xs ys
+
+-- a slash parts a text anywhere
+pub text-slash : (xs ys : List ℕ) → textGood (xs ++ slash ∷ ys) ≡ (textGood xs && textGood ys)
+text-slash xs ys = text-append xs (slash ∷ ys) ∙ rw (text-cons slash ys, byte-slash)
+
+-- a good text has no zero byte, so that the first zero behind it ends the name
+module _ (b : ℕ) (bs : List ℕ) (e : textGood (b ∷ bs) ≡ true) where
+  first-good : (byteGood b ≡ true) × (textGood bs ≡ true)
+  first-good = and-true (byteGood b) (textGood bs) (sym (text-cons b bs) ∙ e)
+
+  first-not-zero : eqb b 0 ≡ false
+  first-not-zero = ne-eqb b 0 (λ z. clash (sym (first-good .0) ∙ ap byteGood z ∙ byte-zero))
+
+pub text-up-to-zero : (s rest : List ℕ) → textGood s ≡ true → upToZero (s ++ 0 ∷ rest) ≡ s
+unfolding upToZero pick
+text-up-to-zero [] rest e = refl
+text-up-to-zero (b ∷ bs) rest e = rw (first-not-zero b bs e) (ap (λ l. b ∷ l) (text-up-to-zero bs rest (first-good b bs e .1)))
+
+pub text-no-zero : (s : List ℕ) → textGood s ≡ true → hasZero s ≡ false
+unfolding hasZero
+text-no-zero [] e = refl
+text-no-zero (b ∷ bs) e = rw (first-not-zero b bs e) (text-no-zero bs (first-good b bs e .1))
+
+-- ---- parts
+pub parts-nil : parts [] ≡ [] ∷ []
+unfolding parts
+parts-nil = refl
+
+pub parts-slash : (bs : List ℕ) → parts (slash ∷ bs) ≡ [] ∷ parts bs
+unfolding parts pick
+parts-slash bs = refl
+
+pub parts-other : (b : ℕ) (bs : List ℕ) → eqb b slash ≡ false → parts (b ∷ bs) ≡ intoFirst b (parts bs)
+unfolding parts
+parts-other b bs e = pick-false _ _ e
+
+-- there is always a first part
+pub parts-some : (s : List ℕ) → (q : List ℕ) × (qs : List (List ℕ)) × (parts s ≡ q ∷ qs)
+unfolding parts pick intoFirst
+parts-some [] = ([], [], refl)
+parts-some (b ∷ bs) = by (eqb b slash) (parts-some bs)
+  where
+    by : (t : Bool) → ((q : List ℕ) × (qs : List (List ℕ)) × (parts bs ≡ q ∷ qs)) → (q : List ℕ) × (qs : List (List ℕ)) × (pick t ([] ∷ parts bs) (intoFirst b (parts bs)) ≡ q ∷ qs)
+    by true r = ([], parts bs, refl)
+    by false (q, qs, e) = (b ∷ q, qs, rw e)
+
+-- the parts of two paths joined by a slash
+pub parts-join : (xs ys : List ℕ) → parts (xs ++ slash ∷ ys) ≡ parts xs ++ parts ys
+unfolding parts pick intoFirst
+parts-join [] ys = refl
+parts-join (b ∷ bs) ys = by (eqb b slash) (parts-join bs ys) (parts-some bs)
+  where
+    by : (t : Bool) → parts (bs ++ slash ∷ ys) ≡ parts bs ++ parts ys → ((q : List ℕ) × (qs : List (List ℕ)) × (parts bs ≡ q ∷ qs))
+        → pick t ([] ∷ parts (bs ++ slash ∷ ys)) (intoFirst b (parts (bs ++ slash ∷ ys))) ≡ pick t ([] ∷ parts bs) (intoFirst b (parts bs)) ++ parts ys
+    by true e r = rw e
+    by false e (q, qs, f) = rw (e, f)
+
+-- ---- paths
+pub path-nil : pathGood [] ≡ false
+unfolding pathGood textGood parts all partGood eqList
+path-nil = refl
+
+module _ (s : List ℕ) (e : pathGood s ≡ true) where
+  path-both : (textGood s ≡ true) × (all partGood (parts s) ≡ true)
+  unfolding pathGood
+  path-both = and-true (textGood s) (all partGood (parts s)) e
+
+  pub path-text : textGood s ≡ true
+  path-text = path-both .0
+
+  pub path-parts : all partGood (parts s) ≡ true
+  path-parts = path-both .1
+
+  pub path-up-to-zero : (rest : List ℕ) → upToZero (s ++ 0 ∷ rest) ≡ s
+  path-up-to-zero rest = text-up-to-zero s rest path-text
+
+pub path-some : (s : List ℕ) → pathGood s ≡ true → 0 < length s
+path-some [] e = clash (sym e ∙ path-nil)
+path-some (b ∷ bs) e = omega arith
+
+-- two paths joined by a slash are a path just where both are
+pub path-join : (xs ys : List ℕ) → pathGood (xs ++ slash ∷ ys) ≡ (pathGood xs && pathGood ys)
+unfolding pathGood
+path-join xs ys =
+    ap₂ (λ a b. a && b) (text-slash xs ys) (ap (all partGood) (parts-join xs ys) ∙ all-append partGood (parts xs) (parts ys))
+    ∙ by (textGood xs) (textGood ys) (all partGood (parts xs)) (all partGood (parts ys))
+  where
+    by : (a b c d : Bool) → ((a && b) && (c && d)) ≡ ((a && c) && (b && d))
+    by true true c d = refl
+    by true false true d = refl
+    by true false false d = refl
+    by false b c d = refl
+
+-- ---- with a length
+pub new-path : (p : List ℕ) → newPathGood p ≡ true → (pathGood p ≡ true) × (length p ≤ 285)
+unfolding newPathGood
+new-path p e = let r = and-true (pathGood p) (leb (length p) 285) e in (r .0, leb-true _ _ (r .1))
+
+pub new-path-made : (p : List ℕ) → pathGood p ≡ true → length p ≤ 285 → newPathGood p ≡ true
+unfolding newPathGood
+new-path-made p e h = and-both _ _ e (le-leb _ _ h)
+
+pub volume-text : (n : List ℕ) → volumeTextGood n ≡ true → textGood n ≡ true
+unfolding volumeTextGood
+volume-text n e = and-true (textGood n) (not (any (eqb slash) n)) e .0
+
+pub volume-name : (n : List ℕ) → volumeNameGood n ≡ true → (volumeTextGood n ≡ true) × (length n ≤ 51)
+unfolding volumeNameGood
+volume-name n e = let r = and-true (volumeTextGood n) (leb (length n) 51) e in (r .0, leb-true _ _ (r .1))
+
+pub volume-name-nil : volumeNameGood [] ≡ true
+unfolding volumeNameGood volumeTextGood any
+volume-name-nil = rw text-nil

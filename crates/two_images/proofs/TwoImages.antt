@@ -1,0 +1,125 @@
+-- 01, the end of "The calls": two images that open and agree in the super-block, the index area and the blocks of live files
+-- give equal answers to find, read and list. Assumes nothing.
+use Prim.Native.Nat.{ℕ, _*_}
+use mathlib.Core.Path.{_≡_, refl, ap, _∙_}
+use mathlib.Core.Bool.{Bool, true, false, _&&_}
+use mathlib.Core.List.{List, []}
+use mathlib.Core.Option.{Option, none, some}
+use lib.ListN.{length}
+use lib.Dec.{eqb, leb}
+use borrow.Author.Tests.{eqb-true}
+use Rattle.rules.specs.Lists.{part}
+use Rattle.rules.specs.Lists.Laws.{and-true, and-both}
+use Rattle.rules.specs.Fields.{splice}
+use Rattle.rules.specs.SuperBlock.{Geometry, geometryOf, blockLength}
+use Rattle.rules.specs.Names.{pathGood}
+use Rattle.rules.specs.Index.{Entry, fileType, liveType, typeFile, itemsOf}
+use Rattle.rules.specs.Regions.{regionsSound, regionGood, blocksOf}
+use Rattle.rules.specs.Paths.{isLive, liveAt, lookup, nextLive}
+use Rattle.rules.specs.Refusals.{Verdict, accepted, need, needFound, andThen, Volume, entries, judge}
+use Rattle.rules.specs.Outcome.{Outcome, done, conclude, onVolume, noEntry, numbersOf, noneListed}
+use Rattle.rules.specs.Reading.{findOf, readOf, listOf, listed, fileBytes}
+use Rattle.rules.specs.History.{Agree, SameAnswer, TwoImages}
+use Rattle.two_images.proofs.Opens.{opened}
+use Rattle.two_images.proofs.Found.{found-all, found-only}
+use Rattle.two_images.proofs.Seen.{shorter, geometry-same, items-same, file-region}
+
+-- ---- what two images were told: alike, where the tests are the same and what is left at the end is
+module _ {A : Type 0} (zeros : A) (s t out : List ℕ) where
+  abbrev Alike : Verdict (Outcome A) → Verdict (Outcome A) → Type 0
+  Alike x y = SameAnswer (conclude zeros s out x) (conclude zeros t out y)
+
+  alike-done : (a : A) (o p : List ℕ) → o ≡ p → Alike (accepted (done a s o)) (accepted (done a t p))
+  unfolding conclude done
+  alike-done a o p e = record { refusals = refl; answers = refl; outputs = e }
+
+  alike-need : (b : Bool) (n : ℕ) (x y : Verdict (Outcome A)) → (b ≡ true → Alike x y) → Alike (need b n x) (need b n y)
+  unfolding need conclude
+  alike-need true n x y h = h refl
+  alike-need false n x y h = record { refusals = refl; answers = refl; outputs = refl }
+
+  alike-found : {B : Type 0} (o : Option B) (n : ℕ) (f g : B → Verdict (Outcome A))
+      → ((e : B) → o ≡ some e → Alike (f e) (g e)) → Alike (needFound o n f) (needFound o n g)
+  unfolding needFound conclude
+  alike-found none n f g h = record { refusals = refl; answers = refl; outputs = refl }
+  alike-found (some e) n f g h = h e refl
+
+  alike-volume : (v : Volume) (f g : Volume → Verdict (Outcome A)) → judge s ≡ accepted v → judge t ≡ accepted v
+      → Alike (f v) (g v) → SameAnswer (onVolume zeros s out f) (onVolume zeros t out g)
+  unfolding onVolume andThen
+  alike-volume v f g p q h = rw (p, q) h
+
+-- ---- the calls on two images that open as one volume
+module _ (s t : List ℕ) (v : Volume) (first : judge s ≡ accepted v) (second : judge t ≡ accepted v) where
+  same-find : (path : List ℕ) → SameAnswer (findOf s path) (findOf t path)
+  unfolding findOf
+  same-find path =
+      alike-volume noEntry s t [] v _ _ first second
+      (alike-need noEntry s t [] (pathGood path) 10 _ _ (λ _.
+      alike-found noEntry s t [] (lookup path (entries v)) 11 _ _ (λ e _.
+      alike-done noEntry s t [] (numbersOf e) [] [] refl)))
+
+  alike-listed : (out : List ℕ) (o : Option Entry) → Alike noneListed s t out (listed s out o) (listed t out o)
+  unfolding listed
+  alike-listed out none = alike-done noneListed s t out noneListed out out refl
+  alike-listed out (some e) =
+      alike-need noneListed s t out (leb (length (e .path)) (length out)) 18 _ _ (λ _.
+      alike-done noneListed s t out _ _ _ refl)
+
+  same-list : (slot : ℕ) (out : List ℕ) → SameAnswer (listOf s slot out) (listOf t slot out)
+  unfolding listOf
+  same-list slot out = alike-volume noneListed s t out v _ _ first second (alike-listed out (nextLive slot (entries v)))
+
+  -- read asks besides that the bytes of the files that it finds agree
+  same-read :
+      ((path : List ℕ) (e : Entry) → lookup path (entries v) ≡ some e → e .kind ≡ typeFile → fileBytes s (v .geometry) e ≡ fileBytes t (v .geometry) e)
+      → (path out : List ℕ) → SameAnswer (readOf s path out) (readOf t path out)
+  unfolding readOf
+  same-read bytes path out =
+      alike-volume 0 s t out v _ _ first second
+      (alike-need 0 s t out (pathGood path) 10 _ _ (λ _.
+      alike-found 0 s t out (lookup path (entries v)) 11 _ _ (λ e f.
+      alike-need 0 s t out (eqb (e .kind) typeFile) 17 _ _ (λ k.
+      alike-need 0 s t out (leb (e .length) (length out)) 18 _ _ (λ _.
+      alike-done 0 s t out (e .length) _ _ (ap (splice out 0) (bytes path e f (eqb-true (e .kind) typeFile k))))))))
+
+-- ---- they open as one volume, and the files that are found have the same bytes
+one-volume : (s t : List ℕ) (v : Volume) → judge t ≡ accepted v → (a : Agree s t) → judge t ≡ accepted (a .volume)
+one-volume s t v o a =
+    let p = opened s (a .volume) (a .opens) .volume in
+    let q = opened t v o .volume in
+    let g : geometryOf s ≡ geometryOf t = geometry-same s t (a .superBlock) in
+    let i : itemsOf s (geometryOf s) ≡ itemsOf t (geometryOf s) = items-same s t (geometryOf s) (rw p at (a .index)) in
+    o ∙ ap accepted (q ∙ rw (p, i, g))
+
+abbrev pub liveFile : Entry → Bool
+liveFile e = isLive e && fileType (e .kind)
+
+file-live : (e : Entry) → e .kind ≡ typeFile → (isLive e ≡ true) × (fileType (e .kind) ≡ true)
+unfolding isLive liveType fileType
+file-live e k = rw k (refl, refl)
+
+abbrev pub SameBlocks : List ℕ → List ℕ → Geometry → Entry → Type 0
+SameBlocks s t g e = part s (e .start * blockLength g) (blocksOf e * blockLength g) ≡ part t (e .start * blockLength g) (blocksOf e * blockLength g)
+
+same-bytes : (s t : List ℕ) (a : Agree s t) (path : List ℕ) (e : Entry) → lookup path (entries (a .volume)) ≡ some e → e .kind ≡ typeFile
+    → fileBytes s (a .volume .geometry) e ≡ fileBytes t (a .volume .geometry) e
+unfolding fileBytes lookup regionsSound
+same-bytes s t a path e f k =
+    let g = a .volume .geometry in
+    let es = entries (a .volume) in
+    let l = file-live e k in
+    let sound = opened s (a .volume) (a .opens) .regions in
+    let good : regionGood g e ≡ true = found-all (liveAt path) e (regionGood g) es (and-true _ _ sound .0) f in
+    let blocks : SameBlocks s t g e =
+    found-only (liveAt path) e (SameBlocks s t g) liveFile es (a .files) (and-both _ _ (l .0) (l .1)) f in
+    shorter s t (e .start * blockLength g) (blocksOf e * blockLength g) blocks (e .length) (file-region g e (l .1) good .fits)
+
+pub two-images : TwoImages
+two-images s t v o a =
+    let second : judge t ≡ accepted (a .volume) = one-volume s t v o a in
+    record {
+      finds = same-find s t (a .volume) (a .opens) second;
+      reads = same-read s t (a .volume) (a .opens) second (same-bytes s t a);
+      lists = same-list s t (a .volume) (a .opens) second;
+    }
