@@ -226,7 +226,14 @@ pub fn next_entry(img: &[u8], from: Cursor) -> Next
     let mut left = from.left;
     while 0 < left {
         if is_entry(img[at]) {
-            return found(img, Cursor { at: Offset(at), slot: Slot(slot), left });
+            return found(
+                img,
+                Cursor {
+                    at: Offset(at),
+                    slot: Slot(slot),
+                    left,
+                },
+            );
         }
         at += 64;
         slot += 1;

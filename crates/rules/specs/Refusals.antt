@@ -11,6 +11,7 @@ use Rattle.rules.specs.SuperBlock.{Geometry, geometryOf, geometryGood, l
 use Rattle.rules.specs.Index.{Item, Entry, itemsOf, entriesOf, indexSound}
 use Rattle.rules.specs.Regions.{regionsSound}
 use Rattle.rules.specs.Paths.{pathsSound}
+pub mod Laws
 
 pub data Verdict (A : Type 0) : Type 0 where
   refused : ℕ → Verdict A

@@ -8,6 +8,7 @@ use lib.Dec.{eqb, ltb, leb}
 use lib.IntN.{ℤ}
 use Rattle.rules.specs.Lists.{pick, part, eqList}
 use Rattle.rules.specs.Fields.{byteAt, le, leBytes, splice, stampIn, stampBytes, checks, checksumOf}
+pub mod Laws
 
 -- an image has 512 to 16,777,216 bytes
 unfoldable pub lengthGood : ℕ → Bool

@@ -4,33 +4,23 @@ use denote.Ref.{now}
 use borrow.Author.Needs.{needs}
 use Rattle.index.proofs.file_field.Statement.{statement}
 use Rattle.index.proofs.file_field.Tie as tie
-use Rattle.index.proofs.file_field.Reads as reads
-use Rattle.index.proofs.file_field.Lts as lts
-use Rattle.fields.proofs.le64_at.Reads as le64-at-reads
-use Rattle.index.proofs.is_file.Reads as is-file-reads
 
--- src/lib.rt:147:16
 shared-slice-read-is-file : tie.Need-shared-slice-read-is-file
 shared-slice-read-is-file c = search needs
 
--- src/lib.rt:147:8
 is-file-requires : tie.Need-is-file-requires
 is-file-requires c κs = search needs
 
--- src/lib.rt:148:37
 add-le64-at : tie.Need-add-le64-at
 add-le64-at c = search needs
 
--- src/lib.rt:148:9
 le64-at-requires : tie.Need-le64-at-requires
 le64-at-requires c κs = search needs
 
--- src/lib.rt:148:9
 returns : tie.Need-returns
 returns c = let a = c .before .before .before .before .before .args in
     c .le64-at .ensures ∙ sym (file-field (now (a .img)) (a .at) (a .o) (sym (c .before .before .is-file .ensures) ∙ c .before .if1 .taken))
 
--- src/lib.rt:143:1
 returns-2 : tie.Need-returns-2
 returns-2 c = let a = c .before .before .before .before .args in
     sym (directory-field (now (a .img)) (a .at) (a .o) (sym (c .before .is-file .ensures) ∙ c .if1 .left))

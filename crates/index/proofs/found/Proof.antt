@@ -4,32 +4,23 @@ use denote.Ref.{now}
 use borrow.Author.Needs.{needs}
 use Rattle.index.proofs.found.Statement.{statement}
 use Rattle.index.proofs.found.Tie as tie
-use Rattle.index.proofs.found.Reads as reads
-use Rattle.index.proofs.found.Lts as lts
-use Rattle.index.proofs.head_at.Reads as head-at-reads
 
--- src/lib.rt:209:9
 head-at-requires : tie.Need-head-at-requires
 head-at-requires c κs = search needs
 
--- src/lib.rt:212:26
 mul-t8 : tie.Need-mul-t8
 mul-t8 c = search needs
 
--- src/lib.rt:212:20
 add-t10 : tie.Need-add-t10
 add-t10 c = search needs
 
--- src/lib.rt:213:20
 add-t12 : tie.Need-add-t12
 add-t12 c = search needs
 
--- src/lib.rt:214:15
 sub-t14 : tie.Need-sub-t14
 sub-t14 c = let x = c .before .before .before in
     slots-left (now (x .args .img)) (x .args .c) (x .pre .0) (x .pre .1) (x .pre .2) _ (c .before .head-at .ensures .0)
 
--- src/lib.rt:203:1
 returns : tie.Need-returns
 unfolding Told
 returns c = let x = c .before .before .before in

@@ -7,47 +7,33 @@ use denote.Ref.{now}
 use borrow.Author.Needs.{needs}
 use Rattle.index.proofs.head_at.Statement.{statement}
 use Rattle.index.proofs.head_at.Tie as tie
-use Rattle.index.proofs.head_at.Reads as reads
-use Rattle.index.proofs.head_at.Lts as lts
-use Rattle.fields.proofs.le64_at.Reads as le64-at-reads
-use Rattle.index.proofs.is_run.Reads as is-run-reads
-use Rattle.index.proofs.run_head.Reads as run-head-reads
 
--- src/lib.rt:176:15
 shared-slice-read-is-run : tie.Need-shared-slice-read-is-run
 shared-slice-read-is-run c = search needs
 
--- src/lib.rt:176:8
 is-run-requires : tie.Need-is-run-requires
 is-run-requires c κs = search needs
 
--- src/lib.rt:177:9
 run-head-requires : tie.Need-run-head-requires
 run-head-requires c κs = (c .before .before .before .before .pre, sym (c .before .is-run .ensures) ∙ c .if1 .taken)
 
--- src/lib.rt:177:9
 returns : tie.Need-returns
 returns c = let a = c .before .before .before .before .before .args in
     let t = sym (c .before .before .is-run .ensures) ∙ c .before .if1 .taken in
     (c .run-head .ensures .0 ∙ sym (head-run (a .slot) _ (ap runType (type-drop (now (a .img)) (a .at)) ∙ t)), c .run-head .ensures .1)
 
--- src/lib.rt:185:43
 add-le64-at : tie.Need-add-le64-at
 add-le64-at c = search needs
 
--- src/lib.rt:185:22
 le64-at-requires : tie.Need-le64-at-requires
 le64-at-requires c κs = search needs
 
--- src/lib.rt:186:41
 add-le64-at-2 : tie.Need-add-le64-at-2
 add-le64-at-2 c = search needs
 
--- src/lib.rt:186:20
 le64-at-requires-2 : tie.Need-le64-at-requires-2
 le64-at-requires-2 c κs = search needs
 
--- src/lib.rt:171:1
 returns-2 : tie.Need-returns-2
 returns-2 c = let a = c .before .before .before .before .before .before .args in
     let t = sym (c .before .before .before .is-run .ensures) ∙ c .before .before .if1 .left in

@@ -6,20 +6,14 @@ use borrow.Author.Tests.{eq-eqb, ne-eqb}
 use borrow.Author.Needs.{needs}
 use Rattle.index.proofs.is_entry.Statement.{statement}
 use Rattle.index.proofs.is_entry.Tie as tie
-use Rattle.index.proofs.is_entry.Reads as reads
-use Rattle.index.proofs.is_entry.Lts as lts
-use Rattle.index.proofs.is_run.Reads as is-run-reads
 
--- src/lib.rt:197:9
 returns : tie.Need-returns
 unfolding entryType
 returns c = sym (or-right (runType _) _ (eq-eqb _ _ (c .if1 .taken)))
 
--- src/lib.rt:199:5
 is-run-requires : tie.Need-is-run-requires
 is-run-requires c κs = search needs
 
--- src/lib.rt:193:1
 returns-2 : tie.Need-returns-2
 unfolding entryType
 returns-2 c = c .is-run .ensures ∙ sym (or-none _ _ (ne-eqb _ _ (c .before .if1 .left)))

@@ -2,15 +2,11 @@ use Rattle.rules.specs.Index.{fileType}
 use borrow.Author.Tests.{eq-eqb, ne-eqb}
 use Rattle.index.proofs.is_file.Statement.{statement}
 use Rattle.index.proofs.is_file.Tie as tie
-use Rattle.index.proofs.is_file.Reads as reads
-use Rattle.index.proofs.is_file.Lts as lts
 
--- src/lib.rt:45:9
 returns : tie.Need-returns
 unfolding fileType
 returns c = rw (eq-eqb _ _ (c .if1 .taken))
 
--- src/lib.rt:41:1
 returns-2 : tie.Need-returns-2
 unfolding fileType
 returns-2 c = rw (ne-eqb _ _ (c .if1 .left))

@@ -3,25 +3,18 @@ use borrow.Author.Tests.{eq-eqb, ne-eqb}
 use borrow.Author.Needs.{needs}
 use Rattle.index.proofs.is_run.Statement.{statement}
 use Rattle.index.proofs.is_run.Tie as tie
-use Rattle.index.proofs.is_run.Reads as reads
-use Rattle.index.proofs.is_run.Lts as lts
-use Rattle.index.proofs.is_file.Reads as is-file-reads
 
--- src/lib.rt:55:9
 returns : tie.Need-returns
 unfolding runType directoryType
 returns c = rw (eq-eqb _ _ (c .if1 .taken))
 
--- src/lib.rt:58:9
 returns-2 : tie.Need-returns-2
 unfolding runType directoryType
 returns-2 c = rw (ne-eqb _ _ (c .before .if1 .left), eq-eqb _ _ (c .if2 .taken))
 
--- src/lib.rt:60:5
 is-file-requires : tie.Need-is-file-requires
 is-file-requires c κs = search needs
 
--- src/lib.rt:51:1
 returns-3 : tie.Need-returns-3
 unfolding runType directoryType
 returns-3 c = rw (ne-eqb _ _ (c .before .before .if1 .left), ne-eqb _ _ (c .before .if2 .left)) (c .is-file .ensures)

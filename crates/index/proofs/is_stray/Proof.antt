@@ -2,20 +2,15 @@ use Rattle.rules.specs.Index.{strayType}
 use borrow.Author.Tests.{eq-eqb, ne-eqb, le-leb, lt-leb}
 use Rattle.index.proofs.is_stray.Statement.{statement}
 use Rattle.index.proofs.is_stray.Tie as tie
-use Rattle.index.proofs.is_stray.Reads as reads
-use Rattle.index.proofs.is_stray.Lts as lts
 
--- src/lib.rt:68:9
 returns : tie.Need-returns
 unfolding strayType
 returns c = rw (le-leb _ _ (c .if1 .taken))
 
--- src/lib.rt:71:9
 returns-2 : tie.Need-returns-2
 unfolding strayType
 returns-2 c = rw (lt-leb _ _ (c .before .if1 .left), eq-eqb _ _ (c .if2 .taken))
 
--- src/lib.rt:64:1
 returns-3 : tie.Need-returns-3
 unfolding strayType
 returns-3 c = rw (lt-leb _ _ (c .before .if1 .left), ne-eqb _ _ (c .if2 .left))

@@ -6,10 +6,6 @@ use native.Mathlib.Omega.{arith}
 use denote.Ref.{now}
 use Rattle.index.proofs.next_entry.Statement.{statement}
 use Rattle.index.proofs.next_entry.Tie as tie
-use Rattle.index.proofs.next_entry.Reads as reads
-use Rattle.index.proofs.next_entry.Lts as lts
-use Rattle.index.proofs.found.Reads as found-reads
-use Rattle.index.proofs.is_entry.Reads as is-entry-reads
 
 abbrev Inv-loop : tie.InvT-loop
 Inv-loop img at₀ slot₀ left₀ at slot left =
@@ -20,44 +16,34 @@ Inv-loop img at₀ slot₀ left₀ at slot left =
 abbrev μ-loop : tie.MeasureT-loop
 μ-loop img at₀ slot₀ left₀ at slot left = left
 
--- src/lib.rt:227:5
 loop-holds : tie.Need-loop-holds Inv-loop μ-loop
 loop-holds c = (c .before .pre, refl, omega arith)
 
--- src/lib.rt:228:21
 shared-slice-read-is-entry : tie.Need-shared-slice-read-is-entry Inv-loop μ-loop
 shared-slice-read-is-entry c = omega (arith, c .before .before .loop .inv .0 .inside .fits)
 
--- src/lib.rt:228:12
 is-entry-requires : tie.Need-is-entry-requires Inv-loop μ-loop
 is-entry-requires c κs = tt
 
--- src/lib.rt:229:13
 found-requires : tie.Need-found-requires Inv-loop μ-loop
 found-requires c κs = (c .before .before .before .before .loop .inv .0, c .before .before .before .loop-test .taken, sym (c .before .is-entry .ensures) ∙ c .if1 .taken)
 
--- src/lib.rt:229:13
 returns : tie.Need-returns Inv-loop μ-loop
 returns c = let l = c .before .before .before .before .before .loop in
     told-before _ _ _ _ (l .inv .1) (l .inv .2) (c .found .ensures)
 
--- src/lib.rt:231:9
 add-at : tie.Need-add-at Inv-loop μ-loop
 add-at c = omega (arith, c .before .before .before .before .loop .inv .0 .inside .fits, c .before .before .before .before .loop .inv .0 .inside .short)
 
--- src/lib.rt:232:9
 add-slot : tie.Need-add-slot Inv-loop μ-loop
 add-slot c = omega (arith, c .before .before .before .before .loop .inv .0 .inside .numbers)
 
--- src/lib.rt:233:9
 sub-left : tie.Need-sub-left Inv-loop μ-loop
 sub-left c = search needs
 
--- src/lib.rt:227:5
 loop-less : tie.Need-loop-less Inv-loop μ-loop
 loop-less c = search needs
 
--- src/lib.rt:227:5
 loop-again : tie.Need-loop-again Inv-loop μ-loop
 loop-again c = let l = c .before .before .before .before .loop in
     let s = now (c .before .before .before .before .before .before .args .img) in
@@ -65,7 +51,6 @@ loop-again c = let l = c .before .before .before .before .loop in
     let m = c .before .before .before .loop-test .taken in
     (skip-walks s (l .at) (l .slot) (l .left) (l .inv .0) m t, skip-entries s (l .at) (l .slot) (l .left) (l .inv .0) m t ∙ l .inv .1, omega (arith, l .inv .2))
 
--- src/lib.rt:220:1
 returns-2 : tie.Need-returns-2 Inv-loop μ-loop
 unfolding Told
 returns-2 c = let l = c .before .loop in

@@ -5,44 +5,31 @@ use denote.Ref.{now}
 use borrow.Author.Needs.{needs}
 use Rattle.index.proofs.slot_step.Statement.{statement}
 use Rattle.index.proofs.slot_step.Tie as tie
-use Rattle.index.proofs.slot_step.Reads as reads
-use Rattle.index.proofs.slot_step.Lts as lts
-use Rattle.index.proofs.is_run.Reads as is-run-reads
-use Rattle.index.proofs.is_stray.Reads as is-stray-reads
-use Rattle.index.proofs.run_step.Reads as run-step-reads
 
--- src/lib.rt:109:16
 shared-slice-read-kind : tie.Need-shared-slice-read-kind
 shared-slice-read-kind c = search needs
 
--- src/lib.rt:110:8
 is-run-requires : tie.Need-is-run-requires
 is-run-requires c κs = search needs
 
--- src/lib.rt:111:9
 run-step-requires : tie.Need-run-step-requires
 run-step-requires c κs = search needs
 
--- src/lib.rt:111:9
 returns : tie.Need-returns
 returns c = let a = c .before .before .before .before .before .args in
     (c .run-step .ensures .0 ∙ step-run (now (a .img)) (a .at) (a .left) _ refl (sym (c .before .before .is-run .ensures) ∙ c .before .if1 .taken), c .run-step .ensures .1)
 
--- src/lib.rt:114:9
 returns-2 : tie.Need-returns-2
 returns-2 c = let a = c .before .before .before .before .before .args in
     (step-unusable (now (a .img)) (a .at) (a .left) _ refl (sym (c .before .before .is-run .ensures) ∙ c .before .if1 .left) (c .if2 .taken), omega arith)
 
--- src/lib.rt:116:8
 is-stray-requires : tie.Need-is-stray-requires
 is-stray-requires c κs = search needs
 
--- src/lib.rt:117:9
 returns-3 : tie.Need-returns-3
 returns-3 c = let a = c .before .before .before .before .before .before .before .args in
     (step-stray (now (a .img)) (a .at) (a .left) _ refl (sym (c .before .before .before .before .is-run .ensures) ∙ c .before .before .before .if1 .left) (c .before .before .if2 .left) (sym (c .before .is-stray .ensures) ∙ c .if3 .taken), omega arith)
 
--- src/lib.rt:105:1
 returns-4 : tie.Need-returns-4
 returns-4 c = let a = c .before .before .before .before .before .before .before .args in
     (step-unused (now (a .img)) (a .at) (a .left) _ refl (sym (c .before .before .before .before .is-run .ensures) ∙ c .before .before .before .if1 .left) (c .before .before .if2 .left) (sym (c .before .is-stray .ensures) ∙ c .if3 .left), omega arith)

@@ -9,9 +9,6 @@ use Rattle.index.specs.View.{walk-stops, walk-turns, walk-ends}
 use borrow.Author.Needs.{needs}
 use Rattle.index.proofs.walk_sound.Statement.{statement}
 use Rattle.index.proofs.walk_sound.Tie as tie
-use Rattle.index.proofs.walk_sound.Reads as reads
-use Rattle.index.proofs.walk_sound.Lts as lts
-use Rattle.index.proofs.slot_step.Reads as slot-step-reads
 
 abbrev Inv-loop : tie.InvT-loop
 Inv-loop img at₀ slot₀ left₀ at slot left =
@@ -23,47 +20,37 @@ Inv-loop img at₀ slot₀ left₀ at slot left =
 abbrev μ-loop : tie.MeasureT-loop
 μ-loop img at₀ slot₀ left₀ at slot left = left
 
--- src/lib.rt:130:5
 loop-holds : tie.Need-loop-holds Inv-loop μ-loop
 loop-holds c = (c .before .pre .fits, c .before .pre .short, c .before .pre .numbers, refl)
 
--- src/lib.rt:131:13
 slot-step-requires : tie.Need-slot-step-requires Inv-loop μ-loop
 slot-step-requires c κs = search needs
 
--- src/lib.rt:133:13
 returns : tie.Need-returns Inv-loop μ-loop
 returns c = let l = c .before .before .before .loop in
     let s = now (c .before .before .before .before .before .args .img) in
     sym (walk-stops (l .left) (l .slot) (drop (l .at) s) (c .before .before .loop-test .taken) (sym (c .before .slot-step .ensures .0) ∙ c .if1 .taken)) ∙ l .inv .3
 
--- src/lib.rt:135:16
 mul-at : tie.Need-mul-at Inv-loop μ-loop
 mul-at c = search needs
 
--- src/lib.rt:135:9
 add-at : tie.Need-add-at Inv-loop μ-loop
 add-at c = search needs
 
--- src/lib.rt:136:9
 add-slot : tie.Need-add-slot Inv-loop μ-loop
 add-slot c = search needs
 
--- src/lib.rt:137:9
 sub-left : tie.Need-sub-left Inv-loop μ-loop
 sub-left c = search needs
 
--- src/lib.rt:130:5
 loop-less : tie.Need-loop-less Inv-loop μ-loop
 loop-less c = search needs
 
--- src/lib.rt:130:5
 loop-again : tie.Need-loop-again Inv-loop μ-loop
 loop-again c = let l = c .before .before .before .loop in
     let s = now (c .before .before .before .before .before .args .img) in
     (omega arith, omega arith, omega arith, walk-turns s (l .at) (l .left) (l .slot) _ (c .before .before .loop-test .taken) (c .before .slot-step .ensures .0) (c .if1 .left) ∙ l .inv .3)
 
--- src/lib.rt:123:1
 returns-2 : tie.Need-returns-2 Inv-loop μ-loop
 returns-2 c = let l = c .before .loop in
     walk-ends (l .slot) _ (l .left) (omega arith) ∙ l .inv .3

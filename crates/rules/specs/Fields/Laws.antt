@@ -6,7 +6,7 @@ use native.Mathlib.Numerals.{add-one, one-add}
 use native.Mathlib.Omega.{arith}
 use native.Mathlib.Nat.{add-zero, zero-add, add-assoc, add-suc, mul-suc, div-add-mod'}
 use lib.ListN.{replicate, length, getD, take, drop, set, length-append, length-take, length-drop, length-set, take-append-drop, List·getD-append, List·getD-eq-default}
-use lib.Seq.{drop-cons, drop-append-add, drop-drop, take-at, drop-length, take-suc-set, drop-set-lt, getD-append-add, getD-take, getD-drop, length-take-le, getD-append-seam, append-snoc}
+use lib.Seq.{drop-cons, drop-append-add, drop-drop, take-at, drop-at, drop-length, take-suc-set, drop-set-lt, getD-append-add, getD-take, getD-drop, length-take-le, getD-append-seam, append-snoc, take-append-add, take-append-seam}
 use borrow.Rule.Slice.PartMut.{putMid, post-is}
 use lib.Pow.{pow-add}
 use borrow.Author.Tests.{eq-eqb, ne-eqb, lt-ltb}
@@ -14,8 +14,9 @@ use native.Mathlib.Decide.{ℕ-discrete}
 use Rattle.rules.specs.Lists.Laws.{pick-true, pick-false}
 use lib.Dec.{eqb, ltb, leb·suc-suc}
 use mathlib.Core.Bool.{true}
-use Rattle.rules.specs.Lists.{sum}
-use Rattle.rules.specs.Fields.{le, leBytes, splice, byteSum, checks, checksumOf, upToZero, hasZero}
+use Rattle.rules.specs.Lists.{sum, part}
+use Rattle.rules.specs.Fields.{le, leBytes, splice, byteSum, checks, checksumOf, upToZero, hasZero, byteAt}
+use Rattle.rules.specs.Lists.Laws.{getD-part, part-ext}
 
 -- ---- le
 
@@ -305,3 +306,53 @@ zero-none s i h = rw (h, drop-length) (omega arith)
 -- a number in what is left of a list
 pub le-drop : (w : ℕ) (s : List ℕ) (at o : ℕ) → le w (drop at s) o ≡ le w s (at + o)
 le-drop w s at o = le-ext w (drop at s) s o (at + o) (λ i h. getD-drop at s (o + i) 0 ∙ ap (λ (k : ℕ). getD s k 0) (omega arith))
+
+-- ---- numbers in parts and in what is joined
+-- a byte is a number of one byte
+pub byte-le : (s : List ℕ) (at : ℕ) → byteAt s at ≡ le 1 s at
+unfolding byteAt
+byte-le s at = sym (le-1 s at)
+
+pub le-part : (w : ℕ) (s : List ℕ) (at n o : ℕ) → o + w ≤ n → le w (part s at n) o ≡ le w s (at + o)
+le-part w s at n o h =
+    le-ext w (part s at n) s o (at + o) (λ i hi. getD-part s at n (o + i) (omega arith) ∙ rw (add-assoc at o i))
+
+pub le-append-before : (w : ℕ) (xs ys : List ℕ) (at : ℕ) → at + w ≤ length xs → le w (xs ++ ys) at ≡ le w xs at
+le-append-before w xs ys at h = le-ext w (xs ++ ys) xs at at (λ i hi. List·getD-append xs ys 0 (at + i) (omega arith))
+
+pub le-append-after : (w : ℕ) (xs ys : List ℕ) (n o : ℕ) → length xs ≡ n → le w (xs ++ ys) (n + o) ≡ le w ys o
+le-append-after w xs ys n o e =
+    le-ext w (xs ++ ys) ys (n + o) o (λ i hi.
+    ap (λ (k : ℕ). getD (xs ++ ys) k 0) (omega arith) ∙ getD-append-add xs ys (o + i) 0)
+
+-- a number that stands between xs and ys
+pub le-between : (w v : ℕ) (xs ys : List ℕ) (n : ℕ) → length xs ≡ n → v < 2 ^ (8 * w) → le w (xs ++ (leBytes w v ++ ys)) n ≡ v
+le-between w v xs ys n e h =
+    let z : n ≡ n + 0 = omega arith in
+    ap (le w (xs ++ (leBytes w v ++ ys))) z
+    ∙ le-append-after w xs (leBytes w v ++ ys) n 0 e
+    ∙ le-append-before w (leBytes w v) ys 0 (omega (arith, length-leBytes w v))
+    ∙ le-leBytes w v h
+
+-- ---- parts of what was written
+module _ (s : List ℕ) (at : ℕ) (bs : List ℕ) (fits : at + length bs ≤ length s) where
+  pub part-splice-before : (a n : ℕ) → a + n ≤ at → part (splice s at bs) a n ≡ part s a n
+  part-splice-before a n h =
+      part-ext (splice s at bs) s a a n (rw (length-splice s at bs fits)) (λ i hi. getD-splice-before s at bs fits (a + i) (omega arith))
+
+  pub part-splice-after : (a n : ℕ) → at + length bs ≤ a → part (splice s at bs) a n ≡ part s a n
+  part-splice-after a n h =
+      part-ext (splice s at bs) s a a n (rw (length-splice s at bs fits)) (λ i hi. getD-splice-after s at bs fits (a + i) (omega arith))
+
+  -- what was written, and n elements behind it
+  pub part-splice-from : (n : ℕ) → part (splice s at bs) at (length bs + n) ≡ bs ++ part s (at + length bs) n
+  unfolding splice part
+  part-splice-from n =
+      ap (take (length bs + n)) (drop-at (take at s) (bs ++ drop (at + length bs) s) at (length-take-le at s (omega arith)))
+      ∙ take-append-add bs (drop (at + length bs) s) n
+
+  pub part-splice-in : part (splice s at bs) at (length bs) ≡ bs
+  unfolding splice part
+  part-splice-in =
+      ap (take (length bs)) (drop-at (take at s) (bs ++ drop (at + length bs) s) at (length-take-le at s (omega arith)))
+      ∙ take-append-seam bs (drop (at + length bs) s)

@@ -1,5 +1,5 @@
 -- Laws of the words about lists: by cases of the test, and what a test over a list says of its elements.
-use Prim.Native.Nat.{ℕ, zero, suc, _+_, _-_, _≤_, _<_}
+use Prim.Native.Nat.{ℕ, zero, suc, _+_, _-_, _≤_, _<_, min}
 use mathlib.Core.Path.{_≡_, refl, sym, ap, ap₂, _∙_}
 use mathlib.Core.Bool.{Bool, true, false, _&&_, _||_, not}
 use mathlib.Core.List.{List, [], _∷_, _++_}
@@ -7,7 +7,7 @@ use mathlib.Core.Option.{Option, none, some}
 use native.Mathlib.Omega.{arith}
 use lib.ListN.{length, getD, take, drop, replicate, length-append, length-replicate, length-take, length-drop}
 use native.Mathlib.Nat.{zero-add, suc-add}
-use lib.Seq.{getD-take, getD-drop, length-take-le, take-nil}
+use lib.Seq.{getD-take, getD-drop, length-take-le, take-nil, take-take, drop-drop, drop-at, ext-getD}
 use lib.Dec.{eqb}
 use borrow.Author.Tests.{eq-eqb, eqb-true}
 use Rattle.rules.specs.Lists.{pick, all, any, everyTwo, keepIf, only, firstIf, first, isSome, eqList, part, padded}
@@ -145,3 +145,24 @@ drop-take (suc n) m (x ∷ xs) = rw suc-add (drop-take n m xs)
 pub or-none : (a b : Bool) → b ≡ false → (a || b) ≡ a
 or-none true b e = refl
 or-none false b e = e
+
+-- ---- parts of parts and of what is joined
+pub part-part : (s : List ℕ) (at n o m : ℕ) → o + m ≤ n → part (part s at n) o m ≡ part s (at + o) m
+unfolding part
+part-part s at n o m h =
+    let e : n ≡ o + (n - o) = omega arith in
+    let d : drop o (take n (drop at s)) ≡ take (n - o) (drop o (drop at s)) =
+    ap (λ (k : ℕ). drop o (take k (drop at s))) e ∙ drop-take o (n - o) (drop at s) in
+    ap (take m) d ∙ take-take m (n - o) (drop o (drop at s)) (omega arith) ∙ ap (take m) (drop-drop o at s)
+
+-- two places where the same stands, and as far as the ends
+pub part-ext : (s t : List ℕ) (at at′ n : ℕ) → length s - at ≡ length t - at′ → ((i : ℕ) → i < n → getD s (at + i) 0 ≡ getD t (at′ + i) 0) → part s at n ≡ part t at′ n
+unfolding part
+part-ext s t at at′ n l h =
+    ext-getD 0 (take n (drop at s)) (take n (drop at′ t)) (simp (length-take, length-drop) (ap (min n) l)) (λ i k.
+    let b : i < n = omega (arith, length-take n (drop at s)) in
+    getD-take n (drop at s) i 0 b ∙ getD-drop at s i 0 ∙ h i b ∙ sym (getD-take n (drop at′ t) i 0 b ∙ getD-drop at′ t i 0))
+
+pub part-append : (xs ys : List ℕ) (n m : ℕ) → length xs ≡ n → part (xs ++ ys) n m ≡ take m ys
+unfolding part
+part-append xs ys n m e = ap (take m) (drop-at xs ys n e)
