@@ -7,6 +7,7 @@ use lib.Dec.{eqb, ltb, leb}
 use Rattle.rules.specs.Lists.{pick, all, any, everyTwo, firstIf, sum, only}
 use Rattle.rules.specs.SuperBlock.{Geometry, blockLength, dataEnd}
 use Rattle.rules.specs.Index.{Entry, fileType, typeUnusable}
+pub mod Laws
 
 -- a region is the blocks from start up to, not including, end; a directory has none
 unfoldable pub holds : ℕ → Entry → Bool

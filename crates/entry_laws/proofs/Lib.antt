@@ -1,0 +1,8 @@
+-- What create, delete and reclaim keep of the entries, in any order.
+pub mod EntryKinds
+pub mod Regions
+pub mod Walked
+pub mod Leading
+pub mod Paths
+pub mod Deleting
+pub mod Creating

@@ -1,0 +1,164 @@
+-- Laws of regions and free runs: what the tests say of the blocks, and what the search for a run says of its answer. Assumes nothing.
+use Prim.Native.Nat.{ℕ, zero, suc, _+_, _-_, _*_, max, _≤_, _<_}
+use mathlib.Core.Path.{_≡_, refl, sym, ap, ap₂, _∙_}
+use mathlib.Core.Bool.{Bool, true, false, _&&_, _||_, not}
+use mathlib.Core.List.{List}
+use mathlib.Core.Option.{Option, none, some}
+use native.Mathlib.Nat.{lt-div-mul-add, div-mul-le-self, div-eq-of-lt}
+use native.Mathlib.Decide.{decLt}
+use native.Mathlib.Omega.{arith}
+use lib.Dec.{leb, ltb}
+use borrow.Author.Tests.{leb-true, leb-false, ltb-true, lt-ltb, le-leb, not-true}
+use Rattle.rules.specs.Lists.{firstIf}
+use Rattle.rules.specs.Lists.Laws.{clash, and-true, and-both, or-false}
+use Rattle.rules.specs.Index.{Entry}
+use Rattle.rules.specs.Regions.{holds, apart, busy, runFree, lowestFrom, lowestFree, blocksNeeded}
+
+-- ---- the blocks of a region
+pub holds-says : (b : ℕ) (e : Entry) → holds b e ≡ true → (e .start ≤ b) × (b < e .end)
+unfolding holds
+holds-says b e h = let p = and-true (leb (e .start) b) (ltb b (e .end)) h in (leb-true (e .start) b (p .0), ltb-true b (e .end) (p .1))
+
+pub holds-in : (b : ℕ) (e : Entry) → e .start ≤ b → b < e .end → holds b e ≡ true
+unfolding holds
+holds-in b e p q = and-both (leb (e .start) b) (ltb b (e .end)) (le-leb (e .start) b p) (lt-ltb b (e .end) q)
+
+-- ---- two regions
+or-comm : (a b : Bool) → (a || b) ≡ (b || a)
+or-comm true true = refl
+or-comm true false = refl
+or-comm false true = refl
+or-comm false false = refl
+
+pub apart-back : (e f : Entry) → apart e f ≡ apart f e
+unfolding apart
+apart-back e f = or-comm (leb (e .end) (f .start)) (leb (f .end) (e .start))
+
+-- a region that ends where the other one starts, or before
+pub apart-before : (e f : Entry) → e .end ≤ f .start → apart e f ≡ true
+unfolding apart
+apart-before e f h = rw (le-leb (e .end) (f .start) h)
+
+pub apart-behind : (e f : Entry) → f .end ≤ e .start → apart e f ≡ true
+apart-behind e f h = apart-back e f ∙ apart-before f e h
+
+not-apart : (e f : Entry) → apart e f ≡ false → (f .start < e .end) × (e .start < f .end)
+unfolding apart
+not-apart e f h =
+    let p = or-false (leb (e .end) (f .start)) (leb (f .end) (e .start)) h in
+    (leb-false (e .end) (f .start) (p .0), leb-false (f .end) (e .start) (p .1))
+
+-- they share no block
+pub apart-none : (e f : Entry) → apart e f ≡ true → (b : ℕ) → holds b e ≡ true → holds b f ≡ true → ⊥
+unfolding apart
+apart-none e f h b p q = go (leb (e .end) (f .start)) refl h
+  where
+    go : (t : Bool) → leb (e .end) (f .start) ≡ t → (t || leb (f .end) (e .start)) ≡ true → ⊥
+    go true l r = omega (arith, leb-true (e .end) (f .start) l, holds-says b e p, holds-says b f q)
+    go false l r = omega (arith, leb-true (f .end) (e .start) r, holds-says b e p, holds-says b f q)
+
+-- and back, of two that have a block
+pub none-apart : (e f : Entry) → e .start < e .end → f .start < f .end → ((b : ℕ) → holds b e ≡ true → holds b f ≡ true → ⊥) → apart e f ≡ true
+none-apart e f p q h = go (apart e f) refl
+  where
+    go : (t : Bool) → apart e f ≡ t → t ≡ true
+    go true l = refl
+    go false l =
+        let n = not-apart e f l in
+        let b : ℕ = max (e .start) (f .start) in
+        absurd (h b (holds-in b e (omega arith) (omega arith)) (holds-in b f (omega arith) (omega arith)))
+
+-- ---- free runs
+-- what holds at s and from suc s up holds from s up
+from : (P : ℕ → Type 0) (s u : ℕ) → s ≤ u → P s → (suc s ≤ u → P u) → Dec (s < u) → P u
+from P s u h e rec (yes g) = rec g
+from P s u h e rec (no g) = let q : u ≡ s = omega arith in rw q e
+
+pub run-says : (es : List Entry) (b k : ℕ) → runFree es b k ≡ true → (u : ℕ) → b ≤ u → u < b + k → busy es u ≡ false
+unfolding runFree
+run-says es b zero e u h l = absurd (omega arith)
+run-says es b (suc k) e u h l =
+    let p = and-true (not (busy es b)) (runFree es (suc b) k) e in
+    from (λ v. busy es v ≡ false) b u h (not-true (busy es b) (p .0)) (λ g. run-says es (suc b) k (p .1) u g (omega arith)) (decLt b u)
+
+pub run-holds : (es : List Entry) (b k : ℕ) → ((u : ℕ) → b ≤ u → u < b + k → busy es u ≡ false) → runFree es b k ≡ true
+unfolding runFree
+run-holds es b zero h = refl
+run-holds es b (suc k) h = rw (h b (omega arith) (omega arith)) (run-holds es (suc b) k (λ u p q. h u (omega arith) (omega arith)))
+
+-- ---- the lowest free run
+-- what the answer says: a run that is free, and no lower one is; or no run is free
+unfoldable pub Told : List Entry → ℕ → ℕ → ℕ → Option ℕ → Type 0
+Told es k low ceiling none = (u : ℕ) → low ≤ u → u + k ≤ ceiling → runFree es u k ≡ false
+Told es k low ceiling (some b) =
+    (low ≤ b) × (b + k ≤ ceiling) × (runFree es b k ≡ true) × ((u : ℕ) → low ≤ u → u < b → runFree es u k ≡ false)
+
+-- a turn: the test at `low`, and the answer from the next start on
+turn : (es : List Entry) (k low ceiling : ℕ) (t : Bool) → runFree es low k ≡ t → low + k ≤ ceiling → (r : Option ℕ) → Told es k (suc low) ceiling r
+    → Told es k low ceiling (firstIf t low r)
+unfolding Told firstIf
+turn es k low ceiling true e m r h = (omega arith, m, e, λ u p q. absurd (omega arith))
+turn es k low ceiling false e m none h =
+    λ u p q. from (λ v. runFree es v k ≡ false) low u p e (λ g. h u g q) (decLt low u)
+turn es k low ceiling false e m (some b) h = (
+  omega (arith, h .0),
+  h .1,
+  h .2,
+  λ u p q. from (λ v. runFree es v k ≡ false) low u p e (λ g. h .3 u g q) (decLt low u),
+)
+
+search-told : (es : List Entry) (k ceiling n low : ℕ) → n ≡ ceiling + 1 - (low + k) → Told es k low ceiling (lowestFrom es k n low)
+unfolding lowestFrom Told
+search-told es k ceiling zero low e = λ u p q. absurd (omega arith)
+search-told es k ceiling (suc n) low e =
+    turn es k low ceiling (runFree es low k) refl (omega arith) (lowestFrom es k n (suc low)) (search-told es k ceiling n (suc low) (omega arith))
+
+pub lowest-told : (es : List Entry) (k low ceiling : ℕ) → Told es k low ceiling (lowestFree es k low ceiling)
+unfolding lowestFree
+lowest-told es k low ceiling = search-told es k ceiling (ceiling + 1 - (low + k)) low refl
+
+-- one answer only is told so
+told-same : (es : List Entry) (k low ceiling : ℕ) (r q : Option ℕ) → Told es k low ceiling r → Told es k low ceiling q → r ≡ q
+unfolding Told
+told-same es k low ceiling none none h g = refl
+told-same es k low ceiling none (some c) h g = clash (sym (g .2) ∙ h c (g .0) (g .1))
+told-same es k low ceiling (some b) none h g = clash (sym (h .2) ∙ g b (h .0) (h .1))
+told-same es k low ceiling (some b) (some c) h g = by (decLt b c) (decLt c b)
+  where
+    by : Dec (b < c) → Dec (c < b) → _≡_ {A = Option ℕ} (some b) (some c)
+    by (yes l) m = clash (sym (h .2) ∙ g .3 b (h .0) l)
+    by (no l) (yes m) = clash (sym (g .2) ∙ h .3 c (g .0) m)
+    by (no l) (no m) = ap {B = Option ℕ} some (omega arith)
+
+pub told-lowest : (es : List Entry) (k low ceiling : ℕ) (r : Option ℕ) → Told es k low ceiling r → lowestFree es k low ceiling ≡ r
+told-lowest es k low ceiling r h = told-same es k low ceiling (lowestFree es k low ceiling) r (lowest-told es k low ceiling) h
+
+pub lowest-is : (es : List Entry) (k low ceiling : ℕ) (r : Option ℕ) → lowestFree es k low ceiling ≡ r → Told es k low ceiling r
+lowest-is es k low ceiling r e = rw e at (lowest-told es k low ceiling)
+
+-- it depends on which blocks are busy, and on nothing else
+pub run-ext : (es fs : List Entry) → ((b : ℕ) → busy es b ≡ busy fs b) → (b k : ℕ) → runFree es b k ≡ runFree fs b k
+unfolding runFree
+run-ext es fs h b zero = refl
+run-ext es fs h b (suc k) = ap₂ (λ s t. not s && t) (h b) (run-ext es fs h (suc b) k)
+
+pub lowest-ext : (es fs : List Entry) → ((b : ℕ) → busy es b ≡ busy fs b) → (k low ceiling : ℕ) → lowestFree es k low ceiling ≡ lowestFree fs k low ceiling
+unfolding lowestFree lowestFrom
+lowest-ext es fs h k low ceiling = go (ceiling + 1 - (low + k)) low
+  where
+    go : (n b : ℕ) → lowestFrom es k n b ≡ lowestFrom fs k n b
+    go zero b = refl
+    go (suc n) b = ap₂ (λ t r. firstIf t b r) (run-ext es fs h b k) (go n (suc b))
+
+-- ---- the blocks of so many bytes
+pub needed-covers : (block bytes : ℕ) → 0 < block → bytes ≤ blocksNeeded block bytes * block
+unfolding blocksNeeded
+needed-covers block bytes h = omega (arith, lt-div-mul-add {a = bytes + block - 1} h)
+
+pub needed-least : (block bytes : ℕ) → 0 < block → blocksNeeded block bytes * block < bytes + block
+unfolding blocksNeeded
+needed-least block bytes h = omega (arith, div-mul-le-self (bytes + block - 1) block)
+
+pub needed-none : (block : ℕ) → 0 < block → blocksNeeded block 0 ≡ 0
+unfolding blocksNeeded
+needed-none block h = div-eq-of-lt (omega arith)
