@@ -18,7 +18,7 @@ dot = 0x2E
 unfoldable pub isMark : ℕ → Bool
 isMark b = any (eqb b) (0x22 ∷ 0x2A ∷ 0x3A ∷ 0x3C ∷ 0x3E ∷ 0x3F ∷ 0x5C ∷ [])
 
--- not below 0x20, not from 0x7F to 0xA0, and no mark
+-- not below 0x20, not from 0x7F to 0xA0, and no mark; what is above 0xFF is no byte
 unfoldable pub byteGood : ℕ → Bool
 byteGood b = leb 0x20 b && not (leb 0x7F b && leb b 0xA0) && leb b 0xFF && not (isMark b)
 
@@ -49,7 +49,7 @@ pathGood p = textGood p && all partGood (parts p)
 unfoldable pub newPathGood : List ℕ → Bool
 newPathGood p = pathGood p && leb (length p) 285
 
--- a volume name has at most 51 bytes and no slash, and may be empty
+-- a volume name has no slash, and may be empty; one that is given has at most 51 bytes
 unfoldable pub volumeTextGood : List ℕ → Bool
 volumeTextGood n = textGood n && not (any (eqb slash) n)
 

@@ -1,0 +1,52 @@
+-- What the cases are computed with.
+use Prim.Native.Nat.{ℕ}
+use Prim.Native.Char.{code}
+use Prim.Native.String.{String}
+use mathlib.Core.List.{List, [], _∷_}
+use Rattle.rules.specs.Lists.{pick, all, any, everyTwo, keepIf, only, firstIf, first, isSome, sum, largest, eqList, part, padded}
+use Rattle.rules.specs.Fields.{byteAt, le, leBytes, splice, signedOf, bitsOf, stampIn, stampBytes, byteSum, checks, checksumOf, upToZero, hasZero}
+use Rattle.rules.specs.SuperBlock.{lengthGood, geometryOf, blockBytes, blockLength, ceilingBlock, dataEnd, indexGood, geometryGood, fieldOf, withIndex, withData, withStamp, growIndex, extendData, trimData, restamp, sizesBytes, summedBytes, superBlockBytes, putSizes}
+use Rattle.rules.specs.Names.{isMark, byteGood, textGood, intoFirst, parts, partGood, pathGood, newPathGood, volumeTextGood, volumeNameGood, leadIf, leading, isBelow}
+use Rattle.rules.specs.Index.{fileType, directoryType, runType, liveType, deletedType, strayType, nameAt, runSlots, nameField, fileField, entryAt, unusableAt, nameGood, runAt, itemAt, followed, walk, slotAt, innerSlots, itemsOf, entriesOf, isFault, identifierAt, volumeField, volumeName, volumeStamp, identifierGood, markerGood, indexSound, markerBytes, identifierBytes, unusedBytes, continuing, runBytes}
+use Rattle.rules.specs.Regions.{holds, blocksOf, withinData, fileRegionGood, regionGood, apart, regionsSound, heldBlocks, busy, runFree, lowestFrom, lowestFree, blocksNeeded}
+use Rattle.rules.specs.Paths.{isLive, liveAt, lookup, isDirectoryAt, directoryLive, directoriesLive, pathsDiffer, pathsSound, anyBelow, nextLive}
+use Rattle.rules.specs.Refusals.{need, needFound, andThen, magicGood, versionGood, checksumGood, judgeIndex, judgeGeometry, judge}
+use Rattle.rules.specs.Outcome.{done, conclude, onVolume, noVolume, noEntry, numbersOf, noneListed}
+use Rattle.rules.specs.Reading.{volumeNumbers, openOf, findOf, fileBytes, readOf, listed, listOf}
+use Rattle.rules.specs.Writing.{freshGeometry, formatted, formatOf, kindOf, bytesOf, nearestLive, startsUnused, itemSlot, lowestUnused, mayGrow, grownPlace, placeFrom, placeRun, placeFile, newEntry, putMarker, created, createOf, deletedKind, deleted, deleteOf, isDeleted, cleared, leastEnd, reclaimOf}
+use Rattle.rules.specs.History.{passed, step, nothing, keptOf, marked, fed, feed, run, told}
+use Rattle.rules.specs.Dates.{floorDiv, floorMod, century, inCentury, yearOfFour, yearOf, dayOf, monthOf, monthStart, calendarMonth, carry, dateAt, dateOf, secondsOf, daysOf, secondOfDay, momentOf, digit, digits, decimal, widened, yearText, twoDigits, momentText}
+use Rattle.rules.specs.Listing.{lineOf, linesOf, countLine, refusedLine, volumeText, listingOf}
+
+-- the bytes of a text of characters below 0x80
+unfoldable pub text : String → List ℕ
+text String.[] = []
+text (String._∷_ c s) = code c ∷ text s
+
+-- All definitions of the rules by one name: a theorem that says `unfolding everything` computes through them.
+unfoldable pub everything : Unit {0}
+unfolding
+    text
+    pick all any everyTwo keepIf only firstIf first isSome sum largest eqList part padded
+    byteAt le leBytes splice signedOf bitsOf stampIn stampBytes byteSum checks checksumOf upToZero hasZero
+    lengthGood geometryOf blockBytes blockLength ceilingBlock dataEnd indexGood geometryGood fieldOf withIndex withData
+    withStamp growIndex extendData trimData restamp sizesBytes summedBytes superBlockBytes putSizes
+    isMark byteGood textGood intoFirst parts partGood pathGood newPathGood volumeTextGood volumeNameGood leadIf leading
+    isBelow
+    fileType directoryType runType liveType deletedType strayType nameAt runSlots nameField fileField entryAt unusableAt
+    nameGood runAt itemAt followed walk slotAt innerSlots itemsOf entriesOf isFault identifierAt volumeField volumeName
+    volumeStamp identifierGood markerGood indexSound markerBytes identifierBytes unusedBytes continuing runBytes
+    holds blocksOf withinData fileRegionGood regionGood apart regionsSound heldBlocks busy runFree lowestFrom lowestFree
+    blocksNeeded
+    isLive liveAt lookup isDirectoryAt directoryLive directoriesLive pathsDiffer pathsSound anyBelow nextLive
+    need needFound andThen magicGood versionGood checksumGood judgeIndex judgeGeometry judge
+    done conclude onVolume noVolume noEntry numbersOf noneListed
+    volumeNumbers openOf findOf fileBytes readOf listed listOf
+    freshGeometry formatted formatOf kindOf bytesOf nearestLive startsUnused itemSlot lowestUnused mayGrow grownPlace
+    placeFrom placeRun placeFile newEntry putMarker created createOf deletedKind deleted deleteOf isDeleted cleared leastEnd
+    reclaimOf
+    passed step nothing keptOf marked fed feed run told
+    floorDiv floorMod century inCentury yearOfFour yearOf dayOf monthOf monthStart calendarMonth carry dateAt dateOf
+    secondsOf daysOf secondOfDay momentOf digit digits decimal widened yearText twoDigits momentText
+    lineOf linesOf countLine refusedLine volumeText listingOf
+everything = tt

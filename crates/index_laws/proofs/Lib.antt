@@ -1,0 +1,11 @@
+-- Theorems about the walk over the index.
+pub mod ListFacts
+pub mod Items
+pub mod Walks
+pub mod Entries
+pub mod Places
+pub mod Unused
+pub mod Shift
+pub mod Runs
+pub mod Deleted
+pub mod Writes
