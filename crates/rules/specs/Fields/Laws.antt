@@ -5,7 +5,7 @@ use mathlib.Core.List.{List, [], _∷_, _++_, append-assoc, append-nil}
 use native.Mathlib.Numerals.{add-one, one-add}
 use native.Mathlib.Omega.{arith}
 use native.Mathlib.Nat.{add-zero, zero-add, add-assoc, add-suc, mul-suc, div-add-mod'}
-use lib.ListN.{replicate, length, getD, take, drop, set, length-append, length-take, length-drop, length-set, take-append-drop, List·getD-append, List·getD-eq-default}
+use lib.ListN.{replicate, length-replicate, length, getD, take, drop, set, length-append, length-take, length-drop, length-set, take-append-drop, List·getD-append, List·getD-eq-default}
 use lib.Seq.{drop-cons, drop-append-add, drop-drop, take-at, drop-at, drop-length, take-suc-set, drop-set-lt, getD-append-add, getD-take, getD-drop, length-take-le, getD-append-seam, append-snoc, take-append-add, take-append-seam}
 use borrow.Rule.Slice.PartMut.{putMid, post-is}
 use lib.Pow.{pow-add}
@@ -14,7 +14,7 @@ use native.Mathlib.Decide.{ℕ-discrete}
 use Rattle.rules.specs.Lists.Laws.{pick-true, pick-false}
 use lib.Dec.{eqb, ltb, leb·suc-suc}
 use mathlib.Core.Bool.{true}
-use Rattle.rules.specs.Lists.{sum, part}
+use Rattle.rules.specs.Lists.{sum, part, padded}
 use Rattle.rules.specs.Fields.{le, leBytes, splice, byteSum, checks, checksumOf, upToZero, hasZero, byteAt}
 use Rattle.rules.specs.Lists.Laws.{getD-part, part-ext}
 
@@ -356,3 +356,12 @@ module _ (s : List ℕ) (at : ℕ) (bs : List ℕ) (fits : at + length bs ≤ le
   part-splice-in =
       ap (take (length bs)) (drop-at (take at s) (bs ++ drop (at + length bs) s) at (length-take-le at s (omega arith)))
       ∙ take-append-seam bs (drop (at + length bs) s)
+
+-- bytes at the front and zeros behind them are the padded bytes
+pub padded-splice : (d src : List ℕ) → length src ≤ length d
+    → splice (splice d 0 src) (length src) (replicate (length d - length src) 0) ≡ padded src (length d)
+unfolding padded
+padded-splice d src h =
+    ap (λ (k : ℕ). splice (splice d 0 src) k (replicate (length d - length src) 0)) (sym (zero-add (length src)))
+    ∙ splice-splice d 0 src (replicate (length d - length src) 0) (rw length-replicate (omega arith))
+    ∙ splice-all d (src ++ replicate (length d - length src) 0) (length-append src _ ∙ rw length-replicate (omega arith))
