@@ -21,6 +21,7 @@ pub mod refusal;
 pub mod regions;
 pub mod script;
 pub mod selftest;
+pub mod store;
 pub mod superblock;
 pub mod volume;
 pub mod xorshift;

@@ -1,9 +1,10 @@
 //! The script interpreter. `SCRIPT.md` is the exact description of what it reads and prints.
 
+use crate::answer::{Found, Listed, Opened};
 use crate::history::{History, Told};
 use crate::refusal::{Refusal, HIGHEST};
+use crate::store::{Own, Store};
 use crate::xorshift::fill;
-use crate::{create_directory, create_file, delete, find, format, list, listing, open, read, reclaim};
 
 /// The most bytes a script may ask for in one piece.
 pub const MOST_BYTES: u64 = 17_000_000;
@@ -82,7 +83,8 @@ fn bounded(length: u64) -> Result<usize, String> {
 
 /// The state a script works on, and a tally of the answers.
 #[derive(Clone, Debug)]
-pub struct Session {
+pub struct Session<S = Own> {
+    store: S,
     image: Vec<u8>,
     history: Option<History>,
     /// How often each refusal number was the answer of a call; listings and histories not counted.
@@ -96,7 +98,7 @@ pub struct Session {
 
 impl Default for Session {
     fn default() -> Self {
-        Session { image: Vec::new(), history: None, met: Default::default(), calls: 0, last: 0, digests: true }
+        Session::over(Own)
     }
 }
 
@@ -104,6 +106,13 @@ impl Session {
     /// A session whose lines leave the digests out, for when nobody reads them.
     pub fn without_digests() -> Self {
         Session { digests: false, ..Session::default() }
+    }
+}
+
+impl<S: Store> Session<S> {
+    /// A session whose calls go to this store.
+    pub fn over(store: S) -> Self {
+        Session { store, image: Vec::new(), history: None, met: Default::default(), calls: 0, last: 0, digests: true }
     }
 
     pub fn image(&self) -> &[u8] {
@@ -150,11 +159,11 @@ impl Session {
         let mut output = lent(if word == "find" { 0 } else { words.length()? });
         words.done()?;
         let (refusal, numbers) = match word {
-            "open" => opened(&self.image, &mut output),
-            "find" => found(&self.image, &path),
-            "list" => listed(&self.image, slot, &mut output),
+            "open" => opened(self.store.open(&self.image, &mut output)),
+            "find" => found(self.store.find(&self.image, &path)),
+            "list" => listed(self.store.list(&self.image, slot, &mut output)),
             _ => {
-                let answer = read(&self.image, &path, &mut output);
+                let answer = self.store.read(&self.image, &path, &mut output);
                 (answer.refusal, vec![answer.length.into()])
             }
         };
@@ -169,13 +178,13 @@ impl Session {
         let stamp = words.number()?;
         let bytes = if word == "mkfile" { words.data()? } else { Vec::new() };
         words.done()?;
-        let image = &mut self.image;
+        let (store, image) = (&self.store, &mut self.image);
         let (answer, told) = match word {
-            "format" => (format(image, block, reserved, &path, stamp), Told::Format { block }),
-            "mkfile" => (create_file(image, &path, stamp, &bytes), Told::File { path: &path, bytes: &bytes }),
-            "mkdir" => (create_directory(image, &path, stamp), Told::Directory { path: &path }),
-            "delete" => (delete(image, &path, stamp), Told::Delete { path: &path }),
-            _ => (reclaim(image, stamp), Told::Reclaim),
+            "format" => (store.format(image, block, reserved, &path, stamp), Told::Format { block }),
+            "mkfile" => (store.create_file(image, &path, stamp, &bytes), Told::File { path: &path, bytes: &bytes }),
+            "mkdir" => (store.create_directory(image, &path, stamp), Told::Directory { path: &path }),
+            "delete" => (store.delete(image, &path, stamp), Told::Delete { path: &path }),
+            _ => (store.reclaim(image, stamp), Told::Reclaim),
         };
         self.tell(told, answer.refusal == 0);
         Ok(self.answer(word, answer.refusal, &[], None))
@@ -192,7 +201,7 @@ impl Session {
 
     fn listing(&mut self, mut words: Words) -> Result<String, String> {
         words.done()?;
-        let text = listing(&self.image);
+        let text = self.store.listing(&self.image);
         self.calls += 1;
         Ok(format!("listing {}{}{}", text.len(), self.shown("text", &text), self.shown("img", &self.image)))
     }
@@ -227,8 +236,7 @@ impl Session {
 
 type Numbers = (Refusal, Vec<i128>);
 
-fn opened(image: &[u8], output: &mut [u8]) -> Numbers {
-    let answer = open(image, output);
+fn opened(answer: Opened) -> Numbers {
     let sizes = [answer.total, answer.reserved, answer.block_length, answer.data, answer.index];
     let mut numbers = vec![i128::from(answer.version)];
     numbers.extend(sizes.map(i128::from));
@@ -237,16 +245,14 @@ fn opened(image: &[u8], output: &mut [u8]) -> Numbers {
     (answer.refusal, numbers)
 }
 
-fn found(image: &[u8], path: &[u8]) -> Numbers {
-    let answer = find(image, path);
+fn found(answer: Found) -> Numbers {
     let mut numbers =
         [answer.slot, answer.kind.into(), answer.start, answer.end, answer.length].map(i128::from).to_vec();
     numbers.push(answer.stamp.into());
     (answer.refusal, numbers)
 }
 
-fn listed(image: &[u8], slot: u64, output: &mut [u8]) -> Numbers {
-    let answer = list(image, slot, output);
+fn listed(answer: Listed) -> Numbers {
     let mut numbers =
         [answer.slot, answer.kind.into(), answer.start, answer.end, answer.length].map(i128::from).to_vec();
     numbers.extend([answer.stamp.into(), i128::from(answer.path_length)]);

@@ -1,0 +1,62 @@
+//! The calls as an interface, so that a script can be carried out on another store and the answers compared.
+
+use crate::answer::{Found, Listed, Opened, Read, Written};
+
+pub trait Store {
+    fn format(&self, image: &mut [u8], bytes_per_block: u64, reserved: u64, name: &[u8], stamp: i64) -> Written;
+    fn open(&self, image: &[u8], output: &mut [u8]) -> Opened;
+    fn find(&self, image: &[u8], path: &[u8]) -> Found;
+    fn list(&self, image: &[u8], slot: u64, output: &mut [u8]) -> Listed;
+    fn read(&self, image: &[u8], path: &[u8], output: &mut [u8]) -> Read;
+    fn create_file(&self, image: &mut [u8], path: &[u8], stamp: i64, bytes: &[u8]) -> Written;
+    fn create_directory(&self, image: &mut [u8], path: &[u8], stamp: i64) -> Written;
+    fn delete(&self, image: &mut [u8], path: &[u8], stamp: i64) -> Written;
+    fn reclaim(&self, image: &mut [u8], stamp: i64) -> Written;
+    fn listing(&self, input: &[u8]) -> Vec<u8>;
+}
+
+/// This crate's own calls.
+#[derive(Clone, Copy, Debug, Default)]
+pub struct Own;
+
+impl Store for Own {
+    fn format(&self, image: &mut [u8], bytes_per_block: u64, reserved: u64, name: &[u8], stamp: i64) -> Written {
+        crate::format(image, bytes_per_block, reserved, name, stamp)
+    }
+
+    fn open(&self, image: &[u8], output: &mut [u8]) -> Opened {
+        crate::open(image, output)
+    }
+
+    fn find(&self, image: &[u8], path: &[u8]) -> Found {
+        crate::find(image, path)
+    }
+
+    fn list(&self, image: &[u8], slot: u64, output: &mut [u8]) -> Listed {
+        crate::list(image, slot, output)
+    }
+
+    fn read(&self, image: &[u8], path: &[u8], output: &mut [u8]) -> Read {
+        crate::read(image, path, output)
+    }
+
+    fn create_file(&self, image: &mut [u8], path: &[u8], stamp: i64, bytes: &[u8]) -> Written {
+        crate::create_file(image, path, stamp, bytes)
+    }
+
+    fn create_directory(&self, image: &mut [u8], path: &[u8], stamp: i64) -> Written {
+        crate::create_directory(image, path, stamp)
+    }
+
+    fn delete(&self, image: &mut [u8], path: &[u8], stamp: i64) -> Written {
+        crate::delete(image, path, stamp)
+    }
+
+    fn reclaim(&self, image: &mut [u8], stamp: i64) -> Written {
+        crate::reclaim(image, stamp)
+    }
+
+    fn listing(&self, input: &[u8]) -> Vec<u8> {
+        crate::listing(input)
+    }
+}
