@@ -4,6 +4,7 @@ use mathlib.Core.List.{List, []}
 use lib.IntN.{ℤ, pos}
 use Rattle.rules.specs.Index.{Entry}
 use Rattle.rules.specs.Refusals.{Verdict, refused, accepted, Volume, judge, andThen}
+pub mod Laws
 
 pub record Outcome (A : Type 0) : Type 0 where
   pub refusal : ℕ  -- 0 is success

@@ -13,6 +13,7 @@ use Rattle.rules.specs.Index.{Entry, volumeName, volumeStamp, typeFile}
 use Rattle.rules.specs.Paths.{lookup, nextLive}
 use Rattle.rules.specs.Refusals.{Verdict, accepted, need, needFound, Volume, entries}
 use Rattle.rules.specs.Outcome.{Outcome, done, onVolume, VolumeNumbers, noVolume, EntryNumbers, noEntry, numbersOf, ListedNumbers, noneListed}
+pub mod Laws
 
 -- ---- open: the volume's numbers, and its name at the start of the output
 unfoldable pub volumeNumbers : List ℕ → Geometry → VolumeNumbers

@@ -16,6 +16,7 @@ use Rattle.rules.specs.Paths.{lookup, directoryLive, anyBelow}
 use Rattle.rules.specs.Lists.{isSome}
 use Rattle.rules.specs.Refusals.{Verdict, accepted, need, needFound, Volume, entries}
 use Rattle.rules.specs.Outcome.{Outcome, done, conclude, onVolume}
+pub mod Laws
 
 abbrev pub Written : Type 0
 Written = Outcome (Unit {0})

@@ -1,0 +1,157 @@
+-- Laws of the writing calls: one for each way that a call can end.
+use Prim.Native.Nat.{ℕ, _+_, _*_, _≤_, _<_}
+use mathlib.Core.Path.{_≡_, refl, sym, ap, _∙_}
+use mathlib.Core.Bool.{Bool, true, false, not}
+use mathlib.Core.List.{List, []}
+use mathlib.Core.Option.{Option, none, some}
+use lib.ListN.{length}
+use lib.Dec.{eqb, leb}
+use lib.IntN.{ℤ}
+use borrow.Author.Tests.{le-leb, lt-leb}
+use Rattle.rules.specs.Lists.{isSome}
+use Rattle.rules.specs.SuperBlock.{Geometry, lengthGood, fieldOf, geometryGood, blockLength, extendData, trimData, restamp, putSizes, version10}
+use Rattle.rules.specs.Names.{pathGood, newPathGood, volumeNameGood, leading}
+use Rattle.rules.specs.Index.{Entry, slotAt, continuing}
+use Rattle.rules.specs.Regions.{blocksNeeded}
+use Rattle.rules.specs.Paths.{lookup, anyBelow}
+use Rattle.rules.specs.Refusals.{Verdict, refused, accepted, Volume, entries, judge}
+use Rattle.rules.specs.Refusals.Laws.{need-true, need-false, found-none, found-some}
+use Rattle.rules.specs.Outcome.{Outcome, done}
+use Rattle.rules.specs.Outcome.Laws.{denied, conclude-refused, conclude-accepted, volume-refused, volume-denied, volume-done}
+use Rattle.rules.specs.Writing.{Written, New, kindOf, bytesOf, formatOf, freshGeometry, formatted, createOf, nearestLive, Place, placeRun, placeFile, newEntry, created, deleteOf, deleted, reclaimOf, leastEnd, cleared}
+
+abbrev pub refusedWrite : List ℕ → ℕ → Written
+refusedWrite s n = denied tt s [] n
+
+abbrev pub wrote : List ℕ → Written
+wrote t = done tt t []
+
+-- ---- format
+module _ (s : List ℕ) (bytes reserved : ℕ) (name : List ℕ) (stamp : ℤ) where
+  pub format-length : lengthGood (length s) ≡ false → formatOf s bytes reserved name stamp ≡ refusedWrite s 1
+  unfolding formatOf
+  format-length l = conclude-refused tt s [] 1 (need-false 1 _ l)
+
+  module _ (l : lengthGood (length s) ≡ true) where
+    pub format-block : fieldOf bytes ≡ none → formatOf s bytes reserved name stamp ≡ refusedWrite s 5
+    unfolding formatOf
+    format-block f = conclude-refused tt s [] 5 (need-true 1 _ l ∙ found-none 5 _ f)
+
+    module _ (b : ℕ) (f : fieldOf bytes ≡ some b) where
+      pub format-geometry : geometryGood (length s) (freshGeometry (length s) b reserved stamp) ≡ false → formatOf s bytes reserved name stamp ≡ refusedWrite s 5
+      unfolding formatOf
+      format-geometry g = conclude-refused tt s [] 5 (need-true 1 _ l ∙ found-some 5 _ f ∙ need-false 5 _ g)
+
+      module _ (g : geometryGood (length s) (freshGeometry (length s) b reserved stamp) ≡ true) where
+        pub format-name : volumeNameGood name ≡ false → formatOf s bytes reserved name stamp ≡ refusedWrite s 10
+        unfolding formatOf
+        format-name n = conclude-refused tt s [] 10 (need-true 1 _ l ∙ found-some 5 _ f ∙ need-true 5 _ g ∙ need-false 10 _ n)
+
+        pub format-done : volumeNameGood name ≡ true → formatOf s bytes reserved name stamp ≡ wrote (formatted s (freshGeometry (length s) b reserved stamp) name)
+        unfolding formatOf
+        format-done n = conclude-accepted tt s [] _ (need-true 1 _ l ∙ found-some 5 _ f ∙ need-true 5 _ g ∙ need-true 10 _ n)
+
+-- ---- an image that does not open
+module _ (s : List ℕ) (n : ℕ) (bad : judge s ≡ refused n) where
+  pub create-refused : (new : New) (path : List ℕ) (stamp : ℤ) → createOf s new path stamp ≡ refusedWrite s n
+  unfolding createOf
+  create-refused new path stamp = volume-refused tt s [] _ n bad
+
+  pub delete-refused : (path : List ℕ) (stamp : ℤ) → deleteOf s path stamp ≡ refusedWrite s n
+  unfolding deleteOf
+  delete-refused path stamp = volume-refused tt s [] _ n bad
+
+  pub reclaim-refused : (stamp : ℤ) → reclaimOf s stamp ≡ refusedWrite s n
+  unfolding reclaimOf
+  reclaim-refused stamp = volume-refused tt s [] _ n bad
+
+-- ---- one that opens, of a version that may only be read
+module _ (s : List ℕ) (v : Volume) (opens : judge s ≡ accepted v) where
+  module _ (later : version10 < v .geometry .version) where
+    old : leb (v .geometry .version) version10 ≡ false
+    old = lt-leb (v .geometry .version) version10 later
+
+    pub create-later : (new : New) (path : List ℕ) (stamp : ℤ) → createOf s new path stamp ≡ refusedWrite s 9
+    unfolding createOf
+    create-later new path stamp = volume-denied tt s [] _ v 9 opens (need-false 9 _ old)
+
+    pub delete-later : (path : List ℕ) (stamp : ℤ) → deleteOf s path stamp ≡ refusedWrite s 9
+    unfolding deleteOf
+    delete-later path stamp = volume-denied tt s [] _ v 9 opens (need-false 9 _ old)
+
+    pub reclaim-later : (stamp : ℤ) → reclaimOf s stamp ≡ refusedWrite s 9
+    unfolding reclaimOf
+    reclaim-later stamp = volume-denied tt s [] _ v 9 opens (need-false 9 _ old)
+
+  -- ---- and one that may be written
+  module _ (current : v .geometry .version ≤ version10) where
+    may : leb (v .geometry .version) version10 ≡ true
+    may = le-leb (v .geometry .version) version10 current
+
+    module _ (new : New) (path : List ℕ) (stamp : ℤ) where
+      pub create-name : newPathGood path ≡ false → createOf s new path stamp ≡ refusedWrite s 10
+      unfolding createOf
+      create-name p = volume-denied tt s [] _ v 10 opens (need-true 9 _ may ∙ need-false 10 _ p)
+
+      module _ (p : newPathGood path ≡ true) where
+        pub create-live : (e : Entry) → lookup path (entries v) ≡ some e → createOf s new path stamp ≡ refusedWrite s 12
+        unfolding createOf isSome
+        create-live e f = volume-denied tt s [] _ v 12 opens (need-true 9 _ may ∙ need-true 10 _ p ∙ need-false 12 _ (rw f))
+
+        module _ (f : lookup path (entries v) ≡ none) where
+          free : not (isSome (lookup path (entries v))) ≡ true
+          unfolding isSome
+          free = rw f
+
+          pub create-orphan : nearestLive (entries v) (leading path) ≡ false → createOf s new path stamp ≡ refusedWrite s 13
+          unfolding createOf
+          create-orphan d = volume-denied tt s [] _ v 13 opens (need-true 9 _ may ∙ need-true 10 _ p ∙ need-true 12 _ free ∙ need-false 13 _ d)
+
+          module _ (d : nearestLive (entries v) (leading path) ≡ true) where
+            pub create-slots : placeRun (length s) v (1 + continuing (kindOf new) (length path)) ≡ none → createOf s new path stamp ≡ refusedWrite s 15
+            unfolding createOf
+            create-slots r =
+                volume-denied tt s [] _ v 15 opens (need-true 9 _ may ∙ need-true 10 _ p ∙ need-true 12 _ free ∙ need-true 13 _ d ∙ found-none 15 _ r)
+
+            module _ (q : Place) (r : placeRun (length s) v (1 + continuing (kindOf new) (length path)) ≡ some q) where
+              pub create-blocks : placeFile (length s) (q .geometry) (entries v) (blocksNeeded (blockLength (v .geometry)) (length (bytesOf new))) ≡ none
+                  → createOf s new path stamp ≡ refusedWrite s 16
+              unfolding createOf
+              create-blocks b =
+                  volume-denied tt s [] _ v 16 opens
+                  (need-true 9 _ may ∙ need-true 10 _ p ∙ need-true 12 _ free ∙ need-true 13 _ d ∙ found-some 15 _ r ∙ found-none 16 _ b)
+
+              pub create-done : (start : ℕ)
+                  → placeFile (length s) (q .geometry) (entries v) (blocksNeeded (blockLength (v .geometry)) (length (bytesOf new))) ≡ some start
+                  → let e : Entry = newEntry new path stamp (q .slot) start (blocksNeeded (blockLength (v .geometry)) (length (bytesOf new))) in
+                  createOf s new path stamp
+                  ≡ wrote (created s (v .geometry) (restamp (v .geometry) (extendData (q .geometry) (e .end)) stamp) e (bytesOf new))
+              unfolding createOf
+              create-done start b =
+                  volume-done tt s [] _ v _ opens
+                  (need-true 9 _ may ∙ need-true 10 _ p ∙ need-true 12 _ free ∙ need-true 13 _ d ∙ found-some 15 _ r ∙ found-some 16 _ b)
+
+    module _ (path : List ℕ) (stamp : ℤ) where
+      pub delete-name : pathGood path ≡ false → deleteOf s path stamp ≡ refusedWrite s 10
+      unfolding deleteOf
+      delete-name p = volume-denied tt s [] _ v 10 opens (need-true 9 _ may ∙ need-false 10 _ p)
+
+      module _ (p : pathGood path ≡ true) where
+        pub delete-none : lookup path (entries v) ≡ none → deleteOf s path stamp ≡ refusedWrite s 11
+        unfolding deleteOf
+        delete-none f = volume-denied tt s [] _ v 11 opens (need-true 9 _ may ∙ need-true 10 _ p ∙ found-none 11 _ f)
+
+        module _ (e : Entry) (f : lookup path (entries v) ≡ some e) where
+          pub delete-full : anyBelow path (entries v) ≡ true → deleteOf s path stamp ≡ refusedWrite s 14
+          unfolding deleteOf
+          delete-full b = volume-denied tt s [] _ v 14 opens (need-true 9 _ may ∙ need-true 10 _ p ∙ found-some 11 _ f ∙ need-false 14 _ (rw b))
+
+          pub delete-done : anyBelow path (entries v) ≡ false → deleteOf s path stamp ≡ wrote (deleted s (slotAt s (v .geometry) (e .slot)) e stamp)
+          unfolding deleteOf
+          delete-done b = volume-done tt s [] _ v _ opens (need-true 9 _ may ∙ need-true 10 _ p ∙ found-some 11 _ f ∙ need-true 14 _ (rw b))
+
+    pub reclaim-done : (stamp : ℤ)
+        → let g : Geometry = restamp (v .geometry) (trimData (v .geometry) (leastEnd (entries v))) stamp in
+        reclaimOf s stamp ≡ wrote (cleared (putSizes s g) g (entries v))
+    unfolding reclaimOf
+    reclaim-done stamp = volume-done tt s [] _ v _ opens (need-true 9 _ may)
