@@ -1,0 +1,1 @@
+// What an accepted reclaim leaves: see proofs/. There is no code here.

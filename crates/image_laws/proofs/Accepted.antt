@@ -1,0 +1,43 @@
+-- What the refusal number 0 of a writing call says: each of its tests passed.
+use Prim.Native.Nat.{ℕ, _<_}
+use mathlib.Core.Path.{_≡_, refl, sym, ap, _∙_}
+use mathlib.Core.Bool.{Bool, true, false}
+use mathlib.Core.List.{List, []}
+use mathlib.Core.Option.{Option, none, some}
+use native.Mathlib.Omega.{arith}
+use lib.Dec.{leb}
+use Rattle.rules.specs.SuperBlock.{version10}
+use Rattle.rules.specs.Refusals.{Verdict, accepted, need, needFound, Volume, judge}
+use Rattle.rules.specs.Refusals.Laws.{then-next}
+use Rattle.rules.specs.Outcome.{done, conclude, onVolume}
+use Rattle.rules.specs.Writing.{Written, onWritable}
+
+-- what a verdict of a writing call comes to
+abbrev pub ending : List ℕ → Verdict Written → Written
+ending s d = conclude tt s [] d
+
+-- an outcome without refusal, and what it came of
+module _ (s : List ℕ) (w : Written) (success : w .refusal ≡ 0) where
+  pub passed-need : (b : Bool) (n : ℕ) (d : Verdict Written) → 0 < n → w ≡ ending s (need b n d) → (b ≡ true) × (w ≡ ending s d)
+  unfolding need conclude
+  passed-need true n d p e = (refl, e)
+  passed-need false n d p e = let z : n ≡ 0 = sym (ap (λ (o : Written). o .refusal) e) ∙ success in absurd (omega arith)
+
+  pub passed-found : {B : Type 0} (o : Option B) (n : ℕ) (next : B → Verdict Written) → 0 < n → w ≡ ending s (needFound o n next)
+      → (y : B) × (o ≡ some y) × (w ≡ ending s (next y))
+  unfolding needFound conclude
+  passed-found none n next p e = let z : n ≡ 0 = sym (ap (λ (o : Written). o .refusal) e) ∙ success in absurd (omega arith)
+  passed-found (some y) n next p e = (y, refl, e)
+
+-- the image opens as v, and its version may be written
+pub passed-writable : (s : List ℕ) (v : Volume) (call : Volume → Verdict Written) → judge s ≡ accepted v → onWritable s call .refusal ≡ 0
+    → onWritable s call ≡ ending s (call v)
+unfolding onVolume
+passed-writable s v call o z =
+    let next : Volume → Verdict Written = λ u. need (leb (u .geometry .version) version10) 9 (call u) in
+    passed-need s (onWritable s call) z (leb (v .geometry .version) version10) 9 (call v) (omega arith) (ap (ending s) (then-next next o)) .1
+
+-- what is left then
+pub passed-done : (s t : List ℕ) (w : Written) → w ≡ ending s (accepted (done tt t [])) → w .image ≡ t
+unfolding conclude done
+passed-done s t w e = ap (λ (o : Written). o .image) e
