@@ -3,11 +3,11 @@ use Prim.Native.Nat.{ℕ}
 use mathlib.Core.List.{List}
 use native.Mathlib.Omega.{arith}
 use Rattle.rules.specs.Refusals.{entries}
+use Rattle.rules.specs.Refusals.Laws.{judge-opens}
 use Rattle.rules.specs.History.{History, nothing, nameOfKept, ReadsBack, Holds, Demand3}
 use Rattle.after.specs.After.{AfterFormat, AfterCreate, AfterDelete, AfterReclaim}
-use Rattle.demand3.proofs.Lists.{perm-all, perm-map, perm-only, perm-sum}
-use Rattle.demand3.proofs.Opens.{opened}
-use Rattle.demand3.proofs.Walked.{sane-entries}
+use Rattle.list_laws.proofs.Perms.{perm-all, perm-map, perm-only, perm-sum}
+use Rattle.demand3.proofs.Walked.{settled-entries}
 use Rattle.demand3.proofs.Seen.{seen-blocks, files-apart, seen-names}
 use Rattle.demand3.proofs.ReadBack.{reads-back}
 use Rattle.demand3.proofs.Linked.{Link, formatted, linked}
@@ -16,12 +16,12 @@ use Rattle.demand3.proofs.Linked.{Link, formatted, linked}
 pub held : (s : List ℕ) (h : History) → Link s h → Holds s h
 held s h l =
     let v = l .volume in
-    let o = opened s v (l .opens) in
+    let o = judge-opens s v (l .opens) in
     record {
       volume = l .volume;
       opens = l .opens;
-      blocks = omega (arith, l .sums, seen-blocks s v (sane-entries s v o), perm-sum (λ k. k .blocks) (l .agree));
-      apart = files-apart (v .geometry) (entries v) (o .regions);
+      blocks = omega (arith, l .sums, seen-blocks s v (settled-entries s v o), perm-sum (λ k. k .blocks) (l .agree));
+      apart = files-apart (v .geometry) (entries v) (o .regions-sound);
       names = rw (← seen-names s v) (perm-map nameOfKept (perm-only (λ k. k .live) (l .agree)));
       reads = perm-all (ReadsBack s) (l .agree) (reads-back s v (l .opens));
     }

@@ -1,8 +1,7 @@
-pub mod Lists
-pub mod Opens
 pub mod Walked
 pub mod Seen
 pub mod ReadBack
 pub mod Calls
 pub mod Linked
 pub mod Demand
+pub mod Theorem

@@ -1,10 +1,11 @@
 -- Sound regions stay sound: in another order, with one entry more, with a live entry deleted, and without the deleted ones. Assumes nothing.
-use Prim.Native.Nat.{ℕ, _+_, _*_, _≤_, _<_}
+use Prim.Native.Nat.{ℕ, _+_, _-_, _*_, _≤_, _<_}
 use mathlib.Core.Path.{_≡_, refl, sym, ap, ap₂, _∙_}
 use mathlib.Core.Bool.{Bool, true, false, _&&_, _||_, not}
 use mathlib.Core.List.{List, _∷_, map}
-use mathlib.Core.Logic.{_⊎_, inl, inr}
+use mathlib.Core.Logic.{_⊎_, inl, inr, ⊎-elim}
 use native.Mathlib.Omega.{arith}
+use native.Mathlib.Nat.{add-mul}
 use lib.Dec.{eqb, ltb, leb}
 use lib.IntN.{ℤ}
 use borrow.Author.Tests.{leb-true, ltb-true, le-leb, lt-ltb, eqb-true, eq-eqb}
@@ -66,17 +67,45 @@ within-holds g e w =
     (and-both (leb (g .reserved) (e .start)) (ltb (e .start) (e .end)) (le-leb (g .reserved) (e .start) (w .low)) (lt-ltb (e .start) (e .end) (w .some)))
     (le-leb (e .end) (dataEnd g) (w .high))
 
--- what a good region is: none, or within the data area
-file-placed : (g : Geometry) (e : Entry) → fileRegionGood g e ≡ true → Regionless e ⊎ Within g e
+-- what a file's good region is: none and no byte, or within the data area and its bytes fit
+pub file-says : (g : Geometry) (e : Entry) → fileRegionGood g e ≡ true
+    → (Regionless e × (e .length ≡ 0)) ⊎ (Within g e × (e .length ≤ blocksOf e * blockLength g))
 unfolding fileRegionGood
-file-placed g e h = go (eqb (e .start) 0 && eqb (e .end) 0 && eqb (e .length) 0) refl h
+file-says g e h = go (eqb (e .start) 0 && eqb (e .end) 0 && eqb (e .length) 0) refl h
   where
     go : (t : Bool) → (eqb (e .start) 0 && eqb (e .end) 0 && eqb (e .length) 0) ≡ t → (t || (withinData g e && leb (e .length) (blocksOf e * blockLength g))) ≡ true
-        → Regionless e ⊎ Within g e
+        → (Regionless e × (e .length ≡ 0)) ⊎ (Within g e × (e .length ≤ blocksOf e * blockLength g))
     go true p q =
-        let u = and-true (eqb (e .start) 0) (eqb (e .end) 0) (and-true (eqb (e .start) 0 && eqb (e .end) 0) (eqb (e .length) 0) p .0) in
-        inl (record { start = eqb-true (e .start) 0 (u .0); end = eqb-true (e .end) 0 (u .1) })
-    go false p q = inr (within-says g e (and-true (withinData g e) (leb (e .length) (blocksOf e * blockLength g)) q .0))
+        let u = and-true (eqb (e .start) 0 && eqb (e .end) 0) (eqb (e .length) 0) p in
+        let v = and-true (eqb (e .start) 0) (eqb (e .end) 0) (u .0) in
+        inl (record { start = eqb-true (e .start) 0 (v .0); end = eqb-true (e .end) 0 (v .1) }, eqb-true (e .length) 0 (u .1))
+    go false p q =
+        let u = and-true (withinData g e) (leb (e .length) (blocksOf e * blockLength g)) q in
+        inr (within-says g e (u .0), leb-true (e .length) (blocksOf e * blockLength g) (u .1))
+
+-- and in both cases
+pub record FileRegion (g : Geometry) (e : Entry) : Type 0 where
+  pub lower : (e .end ≡ 0) ⊎ (g .reserved ≤ e .start)
+  pub order : e .start ≤ e .end
+  pub upper : e .end ≤ dataEnd g
+  pub fits : e .length ≤ blocksOf e * blockLength g
+
+pub file-region : (g : Geometry) (e : Entry) → fileType (e .kind) ≡ true → regionGood g e ≡ true → FileRegion g e
+unfolding regionGood
+file-region g e f r = go (file-says g e (sym (pick-true _ _ f) ∙ r))
+  where
+    go : (Regionless e × (e .length ≡ 0)) ⊎ (Within g e × (e .length ≤ blocksOf e * blockLength g)) → FileRegion g e
+    go (inl (n, l)) = record { lower = inl (n .end); order = omega (arith, n .start); upper = omega (arith, n .end); fits = omega arith }
+    go (inr (w, l)) = record { lower = inr (w .low); order = omega (arith, w .some); upper = w .high; fits = l }
+
+-- the bytes of its blocks, in blocks of b bytes
+pub region-bytes : (e : Entry) (b : ℕ) → e .start ≤ e .end → e .start * b + blocksOf e * b ≡ e .end * b
+unfolding blocksOf
+region-bytes e b h = sym (add-mul (e .start) (e .end - e .start) b) ∙ ap (λ (n : ℕ). n * b) (omega arith)
+
+-- what a good region is: none, or within the data area
+file-placed : (g : Geometry) (e : Entry) → fileRegionGood g e ≡ true → Regionless e ⊎ Within g e
+file-placed g e h = ⊎-elim (λ n. inl (n .0)) (λ w. inr (w .0)) (file-says g e h)
 
 pub placed : (g : Geometry) (e : Entry) → Settled e → regionGood g e ≡ true → Regionless e ⊎ Within g e
 unfolding regionGood pick

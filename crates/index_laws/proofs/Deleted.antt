@@ -12,10 +12,12 @@ use Rattle.rules.specs.Lists.Laws.{clash, drop-take}
 use Rattle.rules.specs.Fields.{byteAt, le, splice, signedOf, stampIn, stampBytes}
 use Rattle.rules.specs.Fields.Laws.{length-splice, getD-splice-before, getD-splice-in, getD-splice-after, le-splice-in, le-splice-after}
 use Rattle.rules.specs.Index.{Entry, entry, itemAt, entryAt, runSlots, nameField, nameAt, fileField, runType, fileType, directoryType, liveType, slotBytes, countAt, stampAt, startAt, endAt, lengthAt, typeFile, typeDirectory, typeDeletedFile, typeDeletedDirectory}
+use Rattle.rules.specs.Index.Walk.{pick-both}
+use Rattle.rules.specs.Index.Laws.{name-at-bounds}
+use Rattle.rules.specs.Index.Items.{item-run}
 use Rattle.rules.specs.Paths.{isLive}
 use Rattle.rules.specs.Writing.{deletedKind, deleted}
-use Rattle.index_laws.proofs.ListFacts.{pick-by, take-splice-before, drop-splice-after, drop-splice-part}
-use Rattle.index_laws.proofs.Items.{item-run}
+use Rattle.index_laws.proofs.ListFacts.{take-splice-before, drop-splice-after, drop-splice-part}
 use Rattle.index_laws.proofs.Entries.{entry-run, run-kind}
 use Rattle.index_laws.proofs.Runs.{length-stamp}
 
@@ -55,15 +57,11 @@ deleted-file t = deleted-by (fileType t)
 
 pub deleted-run : (t : ℕ) → runType (deletedKind t) ≡ true
 unfolding deletedKind runType directoryType fileType
-deleted-run t = pick-by (λ (u : ℕ). runType u ≡ true) (fileType t) typeDeletedFile typeDeletedDirectory (λ e. refl) (λ e. refl)
+deleted-run t = pick-both (λ (u : ℕ). runType u ≡ true) (fileType t) typeDeletedFile typeDeletedDirectory refl refl
 
 deleted-name : (t : ℕ) → nameAt (deletedKind t) ≡ nameAt t
 unfolding nameAt
 deleted-name t = rw deleted-file
-
-name-bounds : (t : ℕ) → (10 ≤ nameAt t) × (nameAt t ≤ 34)
-unfolding nameAt
-name-bounds t = pick-by (λ (n : ℕ). (10 ≤ n) × (n ≤ 34)) (fileType t) 34 10 (λ e. (omega arith, omega arith)) (λ e. (omega arith, omega arith))
 
 -- ---- what deleting leaves of the bytes around the run
 module _ (s : List ℕ) (at : ℕ) (e : Entry) (stamp : ℤ) (room : at + 10 ≤ length s) where
@@ -150,7 +148,7 @@ module _ (a : List ℕ) (stamp : ℤ) (room : slotBytes ≤ length a) where
   name-gone =
       let n : ℕ = nameAt (byteAt a 0) in
       let m : ℕ = slotBytes * runSlots a in
-      let b = name-bounds (byteAt a 0) in
+      let b = name-at-bounds (byteAt a 0) in
       let e : m ≡ n + (m - n) = omega arith in
       rw (type-gone, slots-gone, deleted-name)
       (ap (λ (j : ℕ). drop n (take j (gone a stamp))) e

@@ -7,14 +7,17 @@ use native.Mathlib.Omega.{arith}
 use lib.ListN.{length}
 use lib.Seq.{take-append-le}
 use lib.Dec.{eqb, leb}
-use borrow.Author.Tests.{le-leb, leb-true, eq-eqb, eqb-true, not-true}
+use borrow.Author.Tests.{leb-true, eqb-true, eqb-false, not-true}
 use Rattle.rules.specs.Lists.{all, sum}
-use Rattle.rules.specs.Lists.Laws.{clash, pick-true, pick-false, and-true, and-both, all-append}
+use Rattle.rules.specs.Lists.Laws.{clash, and-true, all-append}
 use Rattle.rules.specs.Fields.{byteAt}
 use Rattle.rules.specs.Index.{Item, unused, entry, fault, itemAt, runAt, entryAt, unusableAt, isFault, followed, runSlots, nameGood, nameField, runType, strayType, typeUnusable, slotBytes}
 use Rattle.rules.specs.Index.Walk.{slotsOf}
 use Rattle.rules.specs.Index.Frame.{item-same}
-use Rattle.index_laws.proofs.ListFacts.{pick-by, all-parts}
+use Rattle.rules.specs.Index.Items.{item-run, item-unusable, item-unused}
+use Rattle.list_laws.proofs.Parts.{sum-append}
+use Rattle.list_laws.proofs.Every.{pick-by}
+use Rattle.index_laws.proofs.ListFacts.{all-parts}
 
 -- the slots of items
 unfoldable pub slotsIn : List Item → ℕ
@@ -24,20 +27,7 @@ slotsIn is = sum slotsOf is
 abbrev pub noFault : List Item → Type 0
 noFault is = all (λ i. not (isFault i)) is ≡ true
 
--- ---- what stands at a place, by its bytes
-module _ (left k : ℕ) (a : List ℕ) where
-  pub item-run : runType (byteAt a 0) ≡ true → runSlots a ≤ left → nameGood (nameField a) ≡ true → itemAt left k a ≡ entry (entryAt k a)
-  unfolding itemAt runAt
-  item-run t h g = pick-true _ _ t ∙ pick-true _ _ (and-both (leb (runSlots a) left) (nameGood (nameField a)) (le-leb (runSlots a) left h) g)
-
-  pub item-unusable : runType (byteAt a 0) ≡ false → byteAt a 0 ≡ typeUnusable → itemAt left k a ≡ entry (unusableAt k a)
-  unfolding itemAt
-  item-unusable t u = pick-false _ _ t ∙ pick-true _ _ (eq-eqb (byteAt a 0) typeUnusable u)
-
-  pub item-unused : runType (byteAt a 0) ≡ false → eqb (byteAt a 0) typeUnusable ≡ false → strayType (byteAt a 0) ≡ false → itemAt left k a ≡ unused k
-  unfolding itemAt
-  item-unused t u s = pick-false _ _ t ∙ pick-false _ _ u ∙ pick-false _ _ s
-
+-- ---- what stands at a place
 -- each way that an item can come about
 run-by : (left k : ℕ) (a : List ℕ) (P : Item → Type 0)
     → (runSlots a ≤ left → nameGood (nameField a) ≡ true → P (entry (entryAt k a)))
@@ -74,7 +64,7 @@ module _ (left k : ℕ) (a : List ℕ) where
   unfolding isFault slotsOf entryAt unusableAt
   item-held m =
       item-by left k a (λ i. isFault i ≡ false → slotsOf i ≤ m → itemAt m k a ≡ i)
-      (λ r h g e l. item-run m k a r l g) (λ r u e l. item-unusable m k a r u) (λ r u s e l. item-unused m k a r u s) (λ e l. clash e)
+      (λ r h g e l. item-run m k a r l g) (λ r u e l. item-unusable m k a r u) (λ r u s e l. item-unused m k a r (eqb-false (byteAt a 0) typeUnusable u) s) (λ e l. clash e)
 
 -- and with more slots and bytes behind it
 pub item-more : (left more k : ℕ) (a rest : List ℕ) → 0 < left → slotBytes * left ≤ length a → isFault (itemAt left k a) ≡ false → itemAt (left + more) k (a ++ rest) ≡ itemAt left k a
@@ -93,8 +83,8 @@ unfolding slotsIn sum
 slotsIn-cons i is = refl
 
 pub slotsIn-append : (xs ys : List Item) → slotsIn (xs ++ ys) ≡ slotsIn xs + slotsIn ys
-slotsIn-append [] ys = omega (arith, slotsIn-nil)
-slotsIn-append (x ∷ xs) ys = omega (arith, slotsIn-cons x (xs ++ ys), slotsIn-cons x xs, slotsIn-append xs ys)
+unfolding slotsIn
+slotsIn-append xs ys = sum-append slotsOf xs ys
 
 pub noFault-cons : (i : Item) (is : List Item) → noFault (i ∷ is) → (isFault i ≡ false) × noFault is
 unfolding all

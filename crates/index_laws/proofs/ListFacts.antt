@@ -1,17 +1,15 @@
 -- Facts about lists that are not about the index.
 use Prim.Native.Nat.{ℕ, _+_, _-_, _≤_}
-use mathlib.Core.Path.{_≡_, refl, sym, ap, _∙_}
+use mathlib.Core.Path.{_≡_, sym, ap, _∙_}
 use mathlib.Core.Bool.{Bool, true, false}
 use mathlib.Core.List.{List, [], _∷_, _++_, append-assoc}
 use mathlib.Core.Option.{Option, none, some}
 use native.Mathlib.Omega.{arith}
-use native.Mathlib.Nat.{zero-add}
-use lib.ListN.{length, getD, take, drop, List·getD-append}
-use lib.Seq.{take-at, drop-at, take-take, drop-drop, take-add, drop-append-add, length-take-le, getD-append-add}
-use Rattle.rules.specs.Lists.{pick, all, any, isSome}
-use Rattle.rules.specs.Lists.Laws.{clash, and-true, or-false, all-append}
-use Rattle.rules.specs.Fields.{le, splice}
-use Rattle.rules.specs.Fields.Laws.{le-ext}
+use lib.ListN.{length, take, drop}
+use lib.Seq.{take-at, drop-at, take-take, drop-drop, take-add, drop-append-add, length-take-le}
+use Rattle.rules.specs.Lists.{all, isSome}
+use Rattle.rules.specs.Lists.Laws.{clash, and-true, all-append}
+use Rattle.rules.specs.Fields.{splice}
 
 -- ---- a list that begins with an element
 module _ {A : Type 0} where
@@ -44,19 +42,8 @@ module _ {A : Type 0} where
   nil-append (y ∷ xs) x ys e = nil-cons e
 
 -- ---- tests
--- by which way the test goes
-pub pick-by : {A : Type 0} (P : A → Type 0) (b : Bool) (x y : A) → (b ≡ true → P x) → (b ≡ false → P y) → P (pick b x y)
-unfolding pick
-pick-by P true x y p q = p refl
-pick-by P false x y p q = q refl
-
 pub all-parts : {A : Type 0} (p : A → Bool) (xs ys : List A) → all p (xs ++ ys) ≡ true → (all p xs ≡ true) × (all p ys ≡ true)
 all-parts p xs ys e = and-true (all p xs) (all p ys) (sym (all-append p xs ys) ∙ e)
-
-pub any-append-none : {A : Type 0} (p : A → Bool) (xs ys : List A) → any p xs ≡ false → any p ys ≡ false → any p (xs ++ ys) ≡ false
-unfolding any
-any-append-none p [] ys e f = f
-any-append-none p (x ∷ xs) ys e f = let h = or-false (p x) (any p xs) e in rw (h .0) (any-append-none p xs ys (h .1) f)
 
 -- ---- options
 someOr : {A : Type 0} → A → Option A → A
@@ -106,12 +93,3 @@ drop-splice-part n s at bs h =
     ∙ ap (drop n) (append-assoc (take n s) (take at (drop n s)) r)
     ∙ drop-at (take n s) (take at (drop n s) ++ r) n (length-take-le n s h)
     ∙ ap (λ (xs : List ℕ). take at (drop n s) ++ (bs ++ xs)) (ap (λ (j : ℕ). drop j s) e ∙ sym (drop-drop (at + length bs) n s))
-
--- a number that stands between others
-pub le-between : (w at : ℕ) (xs ys zs : List ℕ) → length xs ≡ at → length ys ≡ w → le w (xs ++ (ys ++ zs)) at ≡ le w ys 0
-le-between w at xs ys zs l m =
-    le-ext w (xs ++ (ys ++ zs)) ys at 0 (λ i h.
-    ap (λ (j : ℕ). getD (xs ++ (ys ++ zs)) (j + i) 0) (sym l)
-    ∙ getD-append-add xs (ys ++ zs) i 0
-    ∙ List·getD-append ys zs 0 i (omega arith)
-    ∙ ap (λ (j : ℕ). getD ys j 0) (sym (zero-add i)))

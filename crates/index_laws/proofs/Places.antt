@@ -11,7 +11,8 @@ use Rattle.rules.specs.Lists.Laws.{clash, and-both}
 use Rattle.rules.specs.Index.{Entry, Item, unused, entry, fault, itemAt, entryAt, unusableAt, isFault, followed, entriesOf, runType, slotBytes}
 use Rattle.rules.specs.Index.Walk.{walkAll, walk-step, slotsOf}
 use Rattle.rules.specs.Writing.{itemSlot}
-use Rattle.index_laws.proofs.ListFacts.{cons-tail, nil-append, any-append-none, some-same, none-some}
+use Rattle.list_laws.proofs.Every.{none-passes, any-none, all-join}
+use Rattle.index_laws.proofs.ListFacts.{cons-tail, nil-append, some-same, none-some}
 use Rattle.index_laws.proofs.Items.{slotsIn, noFault, item-by}
 use Rattle.index_laws.proofs.Entries.{IsRun, entry-run}
 use Rattle.index_laws.proofs.Walks.{Split, walk-split, walk-some, walk-first, walk-rest}
@@ -89,7 +90,7 @@ found-later p i is e n f = record {
   pre = i ∷ f .pre;
   post = f .post;
   split = ap (λ (js : List Item). i ∷ js) (f .split);
-  before = ap (any p) (entriesOf-append (i ∷ []) (f .pre)) ∙ any-append-none p (entriesOf (i ∷ [])) (entriesOf (f .pre)) n (f .before);
+  before = ap (any p) (entriesOf-append (i ∷ []) (f .pre)) ∙ any-none p _ (all-join _ (entriesOf (i ∷ [])) (entriesOf (f .pre)) (none-passes p _ n) (none-passes p _ (f .before)));
   passes = f .passes;
 }
 

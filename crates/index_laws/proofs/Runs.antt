@@ -1,56 +1,35 @@
 -- A run as it is stored is read back as its entry.
 use Prim.Native.Nat.{ℕ, suc, _+_, _-_, _*_, _^_, _≤_, _<_}
 use mathlib.Core.Path.{_≡_, refl, sym, ap, _∙_}
-use mathlib.Core.Bool.{Bool, true, false, _&&_, not}
+use mathlib.Core.Bool.{Bool, true, false}
 use mathlib.Core.List.{List, [], _∷_, _++_, append-assoc, append-nil}
 use native.Mathlib.Omega.{arith}
 use lib.ListN.{length, replicate, length-append}
 use lib.Seq.{drop-at, take-all}
-use lib.Dec.{eqb, leb}
+use lib.Dec.{eqb}
 use lib.IntN.{ℤ}
 use lib.Signed.{mag}
-use borrow.Author.Tests.{leb-true, ne-eqb}
-use Rattle.rules.specs.Lists.{pick, all, padded}
-use Rattle.rules.specs.Lists.Laws.{pick-true, pick-false, and-true, and-both, or-right, length-padded}
-use Rattle.rules.specs.Fields.{byteAt, le, leBytes, signedOf, bitsOf, stampIn, stampBytes, upToZero, hasZero}
-use Rattle.rules.specs.Fields.Laws.{length-leBytes, le-leBytes}
-use Rattle.rules.specs.Fields.Signed.{bitsOf-lt, signed-bits}
-use Rattle.rules.specs.Names.{pathGood, textGood, byteGood, isMark}
+use Rattle.rules.specs.Lists.{pick, padded}
+use Rattle.rules.specs.Lists.Laws.{pick-true, pick-false, and-both, or-right, length-padded}
+use Rattle.rules.specs.Fields.{byteAt, le, leBytes, stampIn, stampBytes, upToZero, hasZero}
+use Rattle.rules.specs.Fields.Laws.{length-leBytes, le-append-before, le-append-after, le-between}
+use Rattle.rules.specs.SuperBlock.Laws.{storedStamp, stored-stamp}
+use Rattle.rules.specs.Names.{pathGood}
+use Rattle.rules.specs.Names.Laws.{path-up-to-zero}
 use Rattle.rules.specs.Index.{Entry, entry, itemAt, entryAt, runSlots, nameField, nameAt, nameGood, fileField, runType, fileType, runBytes, continuing, slotBytes, stampAt, startAt, endAt, lengthAt}
 use Rattle.rules.specs.Index.Walk.{walkAll, walk-none, walk-entry}
-use Rattle.index_laws.proofs.ListFacts.{le-between}
-use Rattle.index_laws.proofs.Items.{item-run}
+use Rattle.rules.specs.Index.Items.{item-run}
 
 -- ---- names
-byte-nonzero : (b : ℕ) → byteGood b ≡ true → eqb b 0 ≡ false
-unfolding byteGood
-byte-nonzero b e =
-    let h₁ = and-true (leb 0x20 b && not (leb 0x7F b && leb b 0xA0) && leb b 0xFF) (not (isMark b)) e in
-    let h₂ = and-true (leb 0x20 b && not (leb 0x7F b && leb b 0xA0)) (leb b 0xFF) (h₁ .0) in
-    let h₃ : 0x20 ≤ b = leb-true 0x20 b (and-true (leb 0x20 b) (not (leb 0x7F b && leb b 0xA0)) (h₂ .0) .0) in
-    ne-eqb b 0 (λ z. omega arith)
-
--- a good text ends at the zero behind it
-pub text-ends : (p zs : List ℕ) → textGood p ≡ true → upToZero (p ++ (0 ∷ zs)) ≡ p
-unfolding textGood all upToZero
-text-ends [] zs e = pick-true _ _ refl
-text-ends (b ∷ p) zs e =
-    let h = and-true (byteGood b) (all byteGood p) e in
-    pick-false _ _ (byte-nonzero b (h .0)) ∙ ap (λ (q : List ℕ). b ∷ q) (text-ends p zs (h .1))
-
 pub zero-behind : (p zs : List ℕ) → hasZero (p ++ (0 ∷ zs)) ≡ true
 unfolding hasZero
 zero-behind [] zs = refl
 zero-behind (b ∷ p) zs = or-right (eqb b 0) _ (zero-behind p zs)
 
-path-text : (p : List ℕ) → pathGood p ≡ true → textGood p ≡ true
-unfolding pathGood
-path-text p e = and-true (textGood p) _ e .0
-
 pub path-named : (p zs : List ℕ) → pathGood p ≡ true → nameGood (p ++ (0 ∷ zs)) ≡ true
 unfolding nameGood
 path-named p zs e =
-    and-both (hasZero (p ++ (0 ∷ zs))) (pathGood (upToZero (p ++ (0 ∷ zs)))) (zero-behind p zs) (ap pathGood (text-ends p zs (path-text p e)) ∙ e)
+    and-both (hasZero (p ++ (0 ∷ zs))) (pathGood (upToZero (p ++ (0 ∷ zs)))) (zero-behind p zs) (ap pathGood (path-up-to-zero p e zs) ∙ e)
 
 -- ---- an entry that a run of the fewest slots can hold
 pub record Storable (e : Entry) : Type 0 where
@@ -80,13 +59,9 @@ unfolding stampBytes
 length-stamp z = length-leBytes 8 _
 
 -- a stamp of 64 bits is read as it was stored
-pub stamp-round : (z : ℤ) → mag z < 2 ^ 63 → stampIn (stampBytes z) 0 ≡ z
-unfolding stampIn stampBytes
-stamp-round z h = ap signedOf (le-leBytes 8 (bitsOf z) (bitsOf-lt z h)) ∙ signed-bits z h
-
 pub stored-same : (e : Entry) → mag (e .stamp) < 2 ^ 63 → stored e ≡ e
-unfolding stored
-stored-same e h = rw (stamp-round (e .stamp) h)
+unfolding stored storedStamp
+stored-same e h = rw (stored-stamp (e .stamp) h)
 
 -- a name stands behind three fields of 8 bytes, or none
 name-behind : (t : Bool) (xs : List ℕ) → length xs ≡ 24 → 10 + length (pick t xs []) ≡ pick t 34 10
@@ -161,7 +136,12 @@ module _ (e : Entry) where
 
     stamp-back : stampIn (runBytes e) stampAt ≡ stampIn (stampBytes (e .stamp)) 0
     unfolding stampIn common
-    stamp-back = rw (run-parts, le-between 8 stampAt (e .kind ∷ (e .slots - 1) ∷ []) (stampBytes (e .stamp)) (fields ++ tail) refl (length-stamp (e .stamp)))
+    stamp-back =
+        rw (
+          run-parts,
+          le-append-after 8 (e .kind ∷ (e .slots - 1) ∷ []) (stampBytes (e .stamp) ++ (fields ++ tail)) 2 0 refl,
+          le-append-before 8 (stampBytes (e .stamp)) (fields ++ tail) 0 (omega (arith, length-stamp (e .stamp))),
+        )
 
     name-back : nameField (runBytes e) ≡ tail
     unfolding nameField
@@ -178,8 +158,7 @@ module _ (e : Entry) where
         let l : length (common ++ xs) ≡ at = length-append common xs ∙ omega (arith, length-common) in
         rw type-back (pick-true _ _ f)
         ∙ ap (λ (xs : List ℕ). le 8 xs at) a
-        ∙ le-between 8 at (common ++ xs) (leBytes 8 v) (ys ++ tail) l (length-leBytes 8 v)
-        ∙ le-leBytes 8 v fits
+        ∙ le-between 8 v (common ++ xs) (ys ++ tail) at l fits
 
     bare-field : (at : ℕ) → fileType (e .kind) ≡ false → fileField (runBytes e) at ≡ 0
     unfolding fileField
@@ -198,7 +177,7 @@ module _ (e : Entry) where
         (bare-field startAt f ∙ sym (b .0), bare-field endAt f ∙ sym (b .1), bare-field lengthAt f ∙ sym (b .2))
 
     path-back : upToZero (nameField (runBytes e)) ≡ e .path
-    path-back = rw (name-back, tail-zero) (text-ends (e .path) (replicate (padding - 1) 0) (path-text (e .path) (h .good)))
+    path-back = rw (name-back, tail-zero) (path-up-to-zero (e .path) (h .good) (replicate (padding - 1) 0))
 
     entry-back : entryAt (e .slot) (runBytes e) ≡ stored e
     unfolding entryAt stored

@@ -1,6 +1,4 @@
 -- The claim is `two-images`; `Unseen` says what it means for the bytes that it leaves out.
-pub mod Opens
-pub mod Found
 pub mod Seen
 pub mod TwoImages
 pub mod Reopens

@@ -1,7 +1,7 @@
 -- 01, the end of "The calls": two images that open and agree in the super-block, the index area and the blocks of live files
 -- give equal answers to find, read and list. Assumes nothing.
 use Prim.Native.Nat.{ℕ, _*_}
-use mathlib.Core.Path.{_≡_, refl, ap, _∙_}
+use mathlib.Core.Path.{_≡_, refl, sym, ap, ap₂, _∙_}
 use mathlib.Core.Bool.{Bool, true, false, _&&_}
 use mathlib.Core.List.{List, []}
 use mathlib.Core.Option.{Option, none, some}
@@ -9,20 +9,23 @@ use lib.ListN.{length}
 use lib.Dec.{eqb, leb}
 use borrow.Author.Tests.{eqb-true}
 use Rattle.rules.specs.Lists.{part}
-use Rattle.rules.specs.Lists.Laws.{and-true, and-both}
+use Rattle.rules.specs.Lists.Laws.{and-both}
 use Rattle.rules.specs.Fields.{splice}
-use Rattle.rules.specs.SuperBlock.{Geometry, geometryOf, blockLength}
+use Rattle.rules.specs.SuperBlock.{Geometry, blockLength}
+use Rattle.rules.specs.SuperBlock.Laws.{geometry-same}
 use Rattle.rules.specs.Names.{pathGood}
 use Rattle.rules.specs.Index.{Entry, fileType, liveType, typeFile, itemsOf}
-use Rattle.rules.specs.Regions.{regionsSound, regionGood, blocksOf}
+use Rattle.rules.specs.Index.Frame.{take-same}
+use Rattle.rules.specs.Regions.{blocksOf}
 use Rattle.rules.specs.Paths.{isLive, liveAt, lookup, nextLive}
 use Rattle.rules.specs.Refusals.{Verdict, accepted, need, needFound, andThen, Volume, entries, judge}
+use Rattle.rules.specs.Refusals.Laws.{judge-opens}
 use Rattle.rules.specs.Outcome.{Outcome, done, conclude, onVolume, noEntry, numbersOf, noneListed}
 use Rattle.rules.specs.Reading.{findOf, readOf, listOf, listed, fileBytes}
 use Rattle.rules.specs.History.{Agree, SameAnswer, TwoImages}
-use Rattle.two_images.proofs.Opens.{opened}
-use Rattle.two_images.proofs.Found.{found-all, found-only}
-use Rattle.two_images.proofs.Seen.{shorter, geometry-same, items-same, file-region}
+use Rattle.list_laws.proofs.Every.{only-says, first-says, all-first}
+use Rattle.entry_laws.proofs.Regions.{sound-says, file-region}
+use Rattle.two_images.proofs.Seen.{items-same}
 
 -- ---- what two images were told: alike, where the tests are the same and what is left at the end is
 module _ {A : Type 0} (zeros : A) (s t out : List ℕ) where
@@ -85,12 +88,12 @@ module _ (s t : List ℕ) (v : Volume) (first : judge s ≡ accepted v) (second 
 
 -- ---- they open as one volume, and the files that are found have the same bytes
 one-volume : (s t : List ℕ) (v : Volume) → judge t ≡ accepted v → (a : Agree s t) → judge t ≡ accepted (a .volume)
-one-volume s t v o a =
-    let p = opened s (a .volume) (a .opens) .volume in
-    let q = opened t v o .volume in
-    let g : geometryOf s ≡ geometryOf t = geometry-same s t (a .superBlock) in
-    let i : itemsOf s (geometryOf s) ≡ itemsOf t (geometryOf s) = items-same s t (geometryOf s) (rw p at (a .index)) in
-    o ∙ ap accepted (q ∙ rw (p, i, g))
+one-volume s t v second a =
+    let o = judge-opens s (a .volume) (a .opens) in
+    let p = judge-opens t v second in
+    let g : v .geometry ≡ a .volume .geometry = p .geometry-is ∙ sym (o .geometry-is ∙ geometry-same s t (a .superBlock)) in
+    let i : v .items ≡ a .volume .items = p .items-are ∙ ap (itemsOf t) g ∙ sym (o .items-are ∙ items-same s t (a .volume .geometry) (a .index)) in
+    second ∙ ap accepted (ap₂ {C = Volume} (λ h is. record { geometry = h; items = is }) g i)
 
 abbrev pub liveFile : Entry → Bool
 liveFile e = isLive e && fileType (e .kind)
@@ -104,16 +107,15 @@ SameBlocks s t g e = part s (e .start * blockLength g) (blocksOf e * blockLength
 
 same-bytes : (s t : List ℕ) (a : Agree s t) (path : List ℕ) (e : Entry) → lookup path (entries (a .volume)) ≡ some e → e .kind ≡ typeFile
     → fileBytes s (a .volume .geometry) e ≡ fileBytes t (a .volume .geometry) e
-unfolding fileBytes lookup regionsSound
+unfolding fileBytes lookup part
 same-bytes s t a path e f k =
     let g = a .volume .geometry in
     let es = entries (a .volume) in
     let l = file-live e k in
-    let sound = opened s (a .volume) (a .opens) .regions in
-    let good : regionGood g e ≡ true = found-all (liveAt path) e (regionGood g) es (and-true _ _ sound .0) f in
-    let blocks : SameBlocks s t g e =
-    found-only (liveAt path) e (SameBlocks s t g) liveFile es (a .files) (and-both _ _ (l .0) (l .1)) f in
-    shorter s t (e .start * blockLength g) (blocksOf e * blockLength g) blocks (e .length) (file-region g e (l .1) good .fits)
+    let at = first-says (liveAt path) es e f in
+    let good = all-first _ (liveAt path) es e (sound-says g es (judge-opens s (a .volume) (a .opens) .regions-sound) .each) at in
+    let blocks = all-first _ (liveAt path) es e (only-says (SameBlocks s t g) liveFile es (a .files)) at (and-both _ _ (l .0) (l .1)) in
+    take-same (blocksOf e * blockLength g) _ _ blocks (e .length) (file-region g e (l .1) good .fits)
 
 pub two-images : TwoImages
 two-images s t v o a =

@@ -1,50 +1,33 @@
 -- What the claim about two images means: bytes that are in no live file, super-block or index area may be anything.
 -- So may the blocks outside the data area, and those of deleted files. Assumes nothing.
 use Prim.Native.Nat.{ℕ, _+_, _-_, _*_, _≤_, _<_}
-use mathlib.Core.Path.{_≡_, refl, sym, ap, _∙_}
+use mathlib.Core.Path.{_≡_, refl, sym, _∙_}
 use mathlib.Core.Bool.{Bool, true, false, _||_}
 use mathlib.Core.List.{List, _∷_, _++_}
 use mathlib.Core.Logic.{_⊎_, inl, inr, ⊎-elim}
 use native.Mathlib.Omega.{arith}
-use native.Mathlib.Nat.{mul-le-mul-right, mul-comm, mul-sub, zero-mul}
-use lib.ListN.{length, take, drop, length-drop}
-use lib.Seq.{ext-getD, getD-drop}
+use native.Mathlib.Nat.{mul-le-mul-right, zero-mul}
+use lib.ListN.{length, drop}
 use lib.Dec.{leb}
 use borrow.Author.Tests.{leb-true}
-use Rattle.rules.specs.Lists.{part, everyTwo, only, all, All}
-use Rattle.rules.specs.Lists.Laws.{and-true, length-part, getD-part}
+use Rattle.rules.specs.Lists.{part, only, All}
+use Rattle.rules.specs.Lists.Laws.{and-true}
 use Rattle.rules.specs.Fields.{splice}
-use Rattle.rules.specs.Fields.Laws.{length-splice, getD-splice-before, getD-splice-after}
+use Rattle.rules.specs.Fields.Laws.{length-splice, part-splice-before, part-splice-after}
 use Rattle.rules.specs.SuperBlock.{Geometry, blockLength, dataEnd, superBlockAt}
+use Rattle.rules.specs.SuperBlock.Laws.{areas-fit, super-frame}
 use Rattle.rules.specs.Index.{Entry, fileType, liveType, typeDeletedFile}
-use Rattle.rules.specs.Regions.{regionsSound, regionGood, blocksOf, apart}
+use Rattle.rules.specs.Regions.{blocksOf, apart}
+use Rattle.rules.specs.Regions.Laws.{apart-back}
 use Rattle.rules.specs.Paths.{isLive}
 use Rattle.rules.specs.Refusals.{accepted, Volume, entries, judge}
+use Rattle.rules.specs.Refusals.Laws.{Opens, judge-opens}
 use Rattle.rules.specs.History.{SameAnswers}
-use Rattle.two_images.proofs.Opens.{opened}
-use Rattle.two_images.proofs.Found.{all-both, all-map, all-in, only-all, apart-from}
-use Rattle.two_images.proofs.Seen.{FileRegion, file-region}
-use Rattle.two_images.proofs.Reopens.{areas, reopens}
+use Rattle.list_laws.proofs.Every.{not-both, all-weaken, all-and, all-join, all-at, pairs-split, only-holds}
+use Rattle.entry_laws.proofs.Regions.{sound-says, FileRegion, file-region, region-bytes}
+use Rattle.index_laws.proofs.ListFacts.{drop-splice-after}
+use Rattle.two_images.proofs.Reopens.{reopens}
 use Rattle.two_images.proofs.TwoImages.{liveFile, SameBlocks, two-images}
-
--- ---- beside what was written
-module _ (s : List ℕ) (at : ℕ) (bs : List ℕ) (fits : at + length bs ≤ length s) where
-  part-splice-before : (p n : ℕ) → p + n ≤ at → part s p n ≡ part (splice s at bs) p n
-  part-splice-before p n h =
-      let l : (x : List ℕ) → length x ≡ length s → length (part x p n) ≡ n = λ x e. length-part x p n (omega arith) in
-      ext-getD 0 (part s p n) (part (splice s at bs) p n) (l s refl ∙ sym (l (splice s at bs) (length-splice s at bs fits)))
-      (λ i k.
-      let b : i < n = omega (arith, l s refl) in
-      getD-part s p n i b ∙ sym (getD-splice-before s at bs fits (p + i) (omega arith)) ∙ sym (getD-part (splice s at bs) p n i b))
-
-  drop-splice-after : (p : ℕ) → at + length bs ≤ p → drop p s ≡ drop p (splice s at bs)
-  drop-splice-after p h =
-      ext-getD 0 (drop p s) (drop p (splice s at bs)) (simp (length-drop, length-splice s at bs fits))
-      (λ i _. getD-drop p s i 0 ∙ sym (getD-splice-after s at bs fits (p + i) (omega arith)) ∙ sym (getD-drop p (splice s at bs) i 0))
-
-  part-splice-after : (p n : ℕ) → at + length bs ≤ p → part s p n ≡ part (splice s at bs) p n
-  unfolding part
-  part-splice-after p n h = ap (take n) (drop-splice-after p h)
 
 -- ---- bytes that no answer shows
 -- the n bytes from `at` on are none of the entry's blocks
@@ -57,42 +40,42 @@ pub record Unseen (s : List ℕ) (v : Volume) (at n : ℕ) : Type 0 where
   pub upper : at + n ≤ length s - v .geometry .indexBytes
   pub files : All (Clear (v .geometry) at n) (only liveFile (entries v))
 
-blocks-end : (start end b : ℕ) → start ≤ end → start * b + (end - start) * b ≡ end * b
-blocks-end start end b h =
-    let e : (end - start) * b ≡ end * b - start * b = mul-comm (end - start) b ∙ mul-sub b end start ∙ rw (mul-comm b end, mul-comm b start) in
-    omega (arith, e, mul-le-mul-right b h)
-
 no-blocks : (n b : ℕ) → n ≡ 0 → n * b ≡ 0
 no-blocks n b e = rw e (zero-mul b)
 
 same-blocks : (s : List ℕ) (at : ℕ) (bs : List ℕ) (g : Geometry) (e : Entry) → at + length bs ≤ length s
     → e .start ≤ e .end → Clear g at (length bs) e → SameBlocks s (splice s at bs) g e
-unfolding blocksOf
 same-blocks s at bs g e fits order c =
     ⊎-elim
-    (λ h. part-splice-after s at bs fits (e .start * blockLength g) ((e .end - e .start) * blockLength g) h)
-    (λ h. part-splice-before s at bs fits (e .start * blockLength g) ((e .end - e .start) * blockLength g) (rw (blocks-end (e .start) (e .end) (blockLength g) order) h))
+    (λ h. sym (part-splice-after s at bs fits (e .start * blockLength g) (blocksOf e * blockLength g) h))
+    (λ h. sym (part-splice-before s at bs fits (e .start * blockLength g) (blocksOf e * blockLength g) (rw (region-bytes e (blockLength g) order) h)))
     c
 
-pub unseen : (s : List ℕ) (v : Volume) (at : ℕ) (bs : List ℕ) → judge s ≡ accepted v → Unseen s v at (length bs) → SameAnswers s (splice s at bs)
-unfolding regionsSound
-unseen s v at bs o u =
-    let q = opened s v o in
+-- the live files of an image that opens
+live-files : (s : List ℕ) (v : Volume) → Opens s v → All (FileRegion (v .geometry)) (only liveFile (entries v))
+live-files s v o =
     let g = v .geometry in
+    only-holds (FileRegion g) liveFile (entries v)
+    (all-weaken _ _ (λ e r l. file-region g e (and-true (isLive e) (fileType (e .kind)) l .1) r) (entries v) (sound-says g (entries v) (o .regions-sound) .each))
+
+pub unseen : (s : List ℕ) (v : Volume) (at : ℕ) (bs : List ℕ) → judge s ≡ accepted v → Unseen s v at (length bs) → SameAnswers s (splice s at bs)
+unseen s v at bs opens u =
+    let o = judge-opens s v opens in
+    let g = v .geometry in
+    let t = splice s at bs in
+    let live = only liveFile (entries v) in
     let fits : at + length bs ≤ length s = omega (arith, u .upper) in
-    let long : length s ≡ length (splice s at bs) = sym (length-splice s at bs fits) in
-    let sb : part s superBlockAt 42 ≡ part (splice s at bs) superBlockAt 42 = part-splice-before s at bs fits superBlockAt 42 (u .lower) in
-    let i : drop (length s - g .indexBytes) s ≡ drop (length (splice s at bs) - g .indexBytes) (splice s at bs) =
-    rw (← long) (drop-splice-after s at bs fits (length s - g .indexBytes) (u .upper)) in
-    let good = only-all liveFile (regionGood g) (entries v) (and-true _ _ (q .regions) .0) in
-    two-images s (splice s at bs) v (reopens s (splice s at bs) v o long sb i) (record {
+    let long : length s ≡ length t = sym (length-splice s at bs fits) in
+    let sb : part s superBlockAt 42 ≡ part t superBlockAt 42 = sym (super-frame s at bs (u .lower) fits) in
+    let i : drop (length s - g .indexBytes) s ≡ drop (length t - g .indexBytes) t =
+    rw (← long) (sym (drop-splice-after s at bs (omega arith) (length s - g .indexBytes) (u .upper))) in
+    two-images s t v (reopens s t v opens long sb i) (record {
       volume = v;
-      opens = o;
+      opens = opens;
       superBlock = sb;
       index = i;
-      files = all-both (λ e. (liveFile e ≡ true) × (regionGood g e ≡ true)) (Clear g at (length bs)) (SameBlocks s (splice s at bs) g) (only liveFile (entries v))
-          (λ e k c. same-blocks s at bs g e fits (file-region g e (and-true (isLive e) (fileType (e .kind)) (k .0) .1) (k .1) .order) c)
-          good (u .files);
+      files = all-weaken (λ e. FileRegion g e × Clear g at (length bs) e) (SameBlocks s t g) (λ e k. same-blocks s at bs g e fits (k .0 .order) (k .1)) live
+          (all-and (FileRegion g) (Clear g at (length bs)) live (live-files s v o) (u .files));
     })
 
 -- ---- blocks outside the data area: reserved ones behind the super-block, and those between the data area and the index area
@@ -112,15 +95,11 @@ pub outside-unseen : (s : List ℕ) (v : Volume) (at : ℕ) (bs : List ℕ) → 
     → at + length bs ≤ length s - v .geometry .indexBytes
     → (at + length bs ≤ v .geometry .reserved * blockLength (v .geometry)) ⊎ (dataEnd (v .geometry) * blockLength (v .geometry) ≤ at)
     → SameAnswers s (splice s at bs)
-unfolding regionsSound
-outside-unseen s v at bs o lower upper w =
-    let g = v .geometry in
-    unseen s v at bs o (record {
+outside-unseen s v at bs opens lower upper w =
+    unseen s v at bs opens (record {
       lower = lower;
       upper = upper;
-      files = all-map (λ e. (liveFile e ≡ true) × (regionGood g e ≡ true)) (Clear g at (length bs)) (only liveFile (entries v))
-          (λ e k. outside g at (length bs) e w (file-region g e (and-true (isLive e) (fileType (e .kind)) (k .0) .1) (k .1)))
-          (only-all liveFile (regionGood g) (entries v) (and-true _ _ (opened s v o .regions) .0));
+      files = all-weaken _ _ (λ e r. outside (v .geometry) at (length bs) e w r) (only liveFile (entries v)) (live-files s v (judge-opens s v opens));
     })
 
 -- ---- the blocks of a deleted file
@@ -128,20 +107,14 @@ dead : (d : Entry) → d .kind ≡ typeDeletedFile → (liveFile d ≡ false) ×
 unfolding isLive liveType fileType
 dead d k = rw k (refl, refl)
 
-apart-or : (e f : Entry) → apart e f ≡ true → (e .end ≤ f .start) ⊎ (f .end ≤ e .start)
+-- an entry apart from one in whose blocks the bytes lie
+clear-of : (g : Geometry) (at n : ℕ) (d : Entry) → d .start * blockLength g ≤ at → at + n ≤ d .end * blockLength g → (e : Entry) → apart d e ≡ true → Clear g at n e
 unfolding apart
-apart-or e f = go (leb (e .end) (f .start)) refl
+clear-of g at n d low high e h = go (leb (d .end) (e .start)) refl h
   where
-    go : (b : Bool) → leb (e .end) (f .start) ≡ b → (b || leb (f .end) (e .start)) ≡ true → (e .end ≤ f .start) ⊎ (f .end ≤ e .start)
-    go true p q = inl (leb-true (e .end) (f .start) p)
-    go false p q = inr (leb-true (f .end) (e .start) q)
-
-module _ (g : Geometry) (at n : ℕ) (d : Entry) (low : d .start * blockLength g ≤ at) (high : at + n ≤ d .end * blockLength g) where
-  below : (e : Entry) → e .end ≤ d .start → Clear g at n e
-  below e h = inr (omega (arith, mul-le-mul-right (blockLength g) h))
-
-  above : (e : Entry) → d .end ≤ e .start → Clear g at n e
-  above e h = inl (omega (arith, mul-le-mul-right (blockLength g) h))
+    go : (t : Bool) → leb (d .end) (e .start) ≡ t → (t || leb (e .end) (d .start)) ≡ true → Clear g at n e
+    go true p q = inl (omega (arith, mul-le-mul-right (blockLength g) (leb-true (d .end) (e .start) p)))
+    go false p q = inr (omega (arith, mul-le-mul-right (blockLength g) (leb-true (e .end) (d .start) q)))
 
 pub deleted-unseen : (s : List ℕ) (v : Volume) (at : ℕ) (bs : List ℕ) → judge s ≡ accepted v
     → (d : Entry) (before after : List Entry) → entries v ≡ before ++ (d ∷ after) → d .kind ≡ typeDeletedFile
@@ -149,24 +122,24 @@ pub deleted-unseen : (s : List ℕ) (v : Volume) (at : ℕ) (bs : List ℕ) → 
     → at + length bs ≤ d .end * blockLength (v .geometry)
     → 0 < length bs
     → SameAnswers s (splice s at bs)
-unfolding regionsSound
-deleted-unseen s v at bs o d before after e k low high some =
+deleted-unseen s v at bs opens d before after e k low high some =
     let g = v .geometry in
-    let q = opened s v o in
-    let z = areas (length s) g (q .good) in
-    let sound = and-true (all (regionGood g) (entries v)) (everyTwo apart (entries v)) (q .regions) in
-    let r : FileRegion g d = file-region g d (dead d k .1) (all-in (regionGood g) d before after (rw e at (sound .0))) in
-    let top = mul-le-mul-right (blockLength g) (r .upper) in
+    let o = judge-opens s v opens in
+    let good = o .geometry-good in
+    let sound = rw e at (sound-says g (entries v) (o .regions-sound)) in
+    let r : FileRegion g d = file-region g d (dead d k .1) (all-at _ before d after (sound .each)) in
+    let (_, behind, across) = pairs-split _ before (d ∷ after) (sound .two) in
+    let clear = clear-of g at (length bs) d low high in
     let bottom : 512 ≤ at =
     ⊎-elim
     (λ h. absurd (omega (arith, no-blocks (d .end) (blockLength g) h)))
-    (λ l. omega (arith, z .reserved, mul-le-mul-right (blockLength g) l))
+    (λ l. omega (arith, good .reserved-covers, mul-le-mul-right (blockLength g) l))
     (r .lower) in
-    unseen s v at bs o (record {
+    unseen s v at bs opens (record {
       lower = omega arith;
-      upper = omega (arith, z .ends);
-      files = rw e (apart-from (Clear g at (length bs)) apart liveFile d
-          (λ x a. ⊎-elim (below g at (length bs) d low high x) (above g at (length bs) d low high x) (apart-or x d a))
-          (λ x a. ⊎-elim (above g at (length bs) d low high x) (below g at (length bs) d low high x) (apart-or d x a))
-          (dead d k .0) before after (rw e at (sound .1)));
+      upper = omega (arith, mul-le-mul-right (blockLength g) (r .upper), areas-fit (length s) g good);
+      files = rw e (only-holds (Clear g at (length bs)) liveFile (before ++ (d ∷ after))
+          (all-join _ before (d ∷ after)
+          (all-weaken _ _ (λ x c l. clear x (apart-back d x ∙ c .0)) before across)
+          (λ l. absurd (not-both (liveFile d) l (dead d k .0)), all-weaken _ _ (λ x c l. clear x c) after (behind .0))));
     })

@@ -1,0 +1,4 @@
+-- What an accepted format leaves: the claim is `format-left`.
+pub mod Answers
+pub mod Ends
+pub mod Format

@@ -1,0 +1,1 @@
+// What an accepted format leaves: see proofs/. There is no code here.
