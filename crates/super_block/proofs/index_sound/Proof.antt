@@ -1,0 +1,33 @@
+use mathlib.Core.Path.{sym, _∙_}
+use denote.Ref.{now}
+use borrow.Author.Tests.{not-true, not-false}
+use Rattle.rules.specs.Index.{indexSound}
+use Rattle.rules.specs.Lists.Laws.{and-left}
+use Rattle.geometry.specs.View.{geometryView}
+use Rattle.super_block.specs.Ends.{sound-by}
+use borrow.Author.Needs.{needs}
+use Rattle.super_block.proofs.index_sound.Statement.{statement}
+use Rattle.super_block.proofs.index_sound.Tie as tie
+
+ends-good-requires : tie.Need-ends-good-requires
+ends-good-requires c κs = search needs
+
+returns : tie.Need-returns
+unfolding indexSound
+returns c = sym (and-left _ _ (sym (c .before .ends-good .ensures) ∙ not-true _ (c .if1 .taken)))
+
+first-slot-requires : tie.Need-first-slot-requires
+first-slot-requires c κs = search needs
+
+walk-sound-requires : tie.Need-walk-sound-requires
+walk-sound-requires c κs = search needs
+
+returns-2 : tie.Need-returns-2
+returns-2 c = let x = c .before .before .before .before .before in
+    let e = sym (c .before .before .before .ends-good .ensures) ∙ not-false _ (c .before .before .if1 .left) in
+    c .walk-sound .ensures ∙ sym (sound-by (now (x .args .img)) (geometryView (x .args .g)) (c .before .first-slot .result) (c .before .first-slot .ensures .0) ∙ rw e)
+
+pub index-sound-spec : {M : Type 1} → statement M
+index-sound-spec =
+    tie.close
+    (tie.spec ends-good-requires returns first-slot-requires walk-sound-requires returns-2)

@@ -1,0 +1,4 @@
+pub mod View
+pub mod Tests
+pub mod Ends
+pub mod Written

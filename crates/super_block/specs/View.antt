@@ -1,0 +1,27 @@
+-- The code's judgement in the rules' words.
+use Prim.Native.Nat.{ℕ, _≤_}
+use mathlib.Core.Path.{_≡_, sym, ap, _∙_}
+use mathlib.Core.List.{List}
+use lib.ListN.{length}
+use Rattle.rules.specs.SuperBlock.{Geometry}
+use Rattle.rules.specs.SuperBlock.Laws.{GoodGeometry}
+use Rattle.rules.specs.Refusals.{Verdict, refused, accepted, judgeGeometry}
+use Rattle.rules.specs.Refusals.Laws.{judge-super}
+use Rattle.geometry.specs.View.{geometryView}
+use Rattle.geometry.specs.declared.Geometry.{Geometry as Held}
+use Rattle.super_block.specs.declared.SuperBlock.{SuperBlock}
+use Rattle.super_block.specs.declared.SuperBlock.the-variants.{Refused, Good}
+
+abbrev pub superView : SuperBlock → Verdict Geometry
+superView (Refused n) = refused n
+superView (Good g) = accepted (geometryView g)
+
+-- what is known of an image whose super-block was found good, with the geometry g
+pub record Judged (s : List ℕ) (g : Held) : Type 0 where
+  pub short : length s ≤ 16_777_216
+  pub good : GoodGeometry (length s) (geometryView g)
+
+pub judged : (s : List ℕ) (r : SuperBlock) (g : Held) → superView r ≡ judgeGeometry s → r ≡ Good g → Judged s g
+judged s r g e i =
+    let o = judge-super s (geometryView g) (sym e ∙ ap superView i) in
+    record { short = o .length-high; good = o .geometry-good }

@@ -1,0 +1,109 @@
+-- A super-block that is written field by field: writings side by side are one.
+use Prim.Native.Nat.{ℕ, _+_, _^_, _≤_, _<_}
+use mathlib.Core.Path.{_≡_, refl, sym, ap, _∙_}
+use mathlib.Core.List.{List, [], _∷_, _++_, append-assoc}
+use native.Mathlib.Omega.{arith}
+use native.Mathlib.Nat.{mod-eq-of-lt}
+use lib.ListN.{length, length-append}
+use lib.IntN.{ℤ}
+use Rattle.rules.specs.Lists.{part}
+use Rattle.rules.specs.Fields.{leBytes, splice, signedOf, bitsOf, stampBytes, checksumOf}
+use Rattle.rules.specs.Fields.Laws.{length-leBytes, splice-splice, part-splice-in}
+use Rattle.rules.specs.Fields.Signed.{bits-signed}
+use Rattle.rules.specs.SuperBlock.{Geometry, superBlockAt, dataAt, indexAt, magicAt, versionAt, totalAt, reservedAt, blockFieldAt, magic, sizesBytes, summedBytes, superBlockBytes, putSizes}
+use Rattle.rules.specs.SuperBlock.Laws.{length-sizes, length-summed, length-putSizes}
+
+byte-alone : (b : ℕ) → b < 256 → leBytes 1 b ≡ b ∷ []
+unfolding leBytes
+byte-alone b h = rw (mod-eq-of-lt h)
+
+-- n bytes, and what is written behind them
+join : (s : List ℕ) (at : ℕ) (xs : List ℕ) (n : ℕ) (ys : List ℕ) → length xs ≡ n → at + (n + length ys) ≤ length s
+    → splice (splice s at xs) (at + n) ys ≡ splice s at (xs ++ ys)
+join s at xs n ys e h = rw (← e) (splice-splice s at xs ys (rw e h))
+
+pub stamp-bits : (b : ℕ) → b < 2 ^ 64 → leBytes 8 b ≡ stampBytes (signedOf b)
+unfolding stampBytes
+stamp-bits b h = rw (bits-signed b h)
+
+length-stamp : (z : ℤ) → length (stampBytes z) ≡ 8
+unfolding stampBytes
+length-stamp z = length-leBytes 8 (bitsOf z)
+
+magic-number : leBytes 3 0x53_4653 ≡ magic
+unfolding leBytes
+magic-number = refl
+
+module _ (s : List ℕ) (room : 0x1BE ≤ length s) (g : Geometry) where
+  pub sizes-put : (s₁ s₂ s₃ : List ℕ)
+      → s₁ ≡ splice s superBlockAt (stampBytes (g .stamp))
+      → s₂ ≡ splice s₁ dataAt (leBytes 8 (g .dataBlocks))
+      → s₃ ≡ splice s₂ indexAt (leBytes 8 (g .indexBytes))
+      → s₃ ≡ putSizes s g
+  unfolding putSizes sizesBytes
+  sizes-put s₁ s₂ s₃ e₁ e₂ e₃ =
+      let x = stampBytes (g .stamp) in
+      let y = leBytes 8 (g .dataBlocks) in
+      let z = leBytes 8 (g .indexBytes) in
+      rw (
+        e₃,
+        e₂,
+        e₁,
+        join s superBlockAt x 8 y (length-stamp _) (rw length-leBytes (omega arith)),
+        join s superBlockAt (x ++ y) 16 z (simp (length-append, length-stamp, length-leBytes)) (rw length-leBytes (omega arith)),
+      )
+      (ap (splice s superBlockAt) (append-assoc x y z))
+
+  pub summed-put : (s₁ s₂ s₃ s₄ s₅ : List ℕ) (v b : ℕ)
+      → v ≡ g .version → v < 256 → b ≡ g .blockField → b < 256
+      → s₁ ≡ splice s magicAt (leBytes 3 0x53_4653)
+      → s₂ ≡ splice s₁ versionAt (leBytes 1 v)
+      → s₃ ≡ splice s₂ totalAt (leBytes 8 (g .total))
+      → s₄ ≡ splice s₃ reservedAt (leBytes 4 (g .reserved))
+      → s₅ ≡ splice s₄ blockFieldAt (leBytes 1 b)
+      → s₅ ≡ splice s magicAt (summedBytes g)
+  unfolding summedBytes
+  summed-put s₁ s₂ s₃ s₄ s₅ v b v-is v-fits b-is b-fits e₁ e₂ e₃ e₄ e₅ =
+      let x = g .version ∷ [] in
+      let y = leBytes 8 (g .total) in
+      let z = leBytes 4 (g .reserved) in
+      let w = g .blockField ∷ [] in
+      let ex : leBytes 1 v ≡ x = rw (← v-is) (byte-alone v v-fits) in
+      let ew : leBytes 1 b ≡ w = rw (← b-is) (byte-alone b b-fits) in
+      rw (
+        e₅,
+        e₄,
+        e₃,
+        e₂,
+        e₁,
+        magic-number,
+        ex,
+        ew,
+        join s magicAt magic 3 x refl (omega arith),
+        join s magicAt (magic ++ x) 4 y refl (rw length-leBytes (omega arith)),
+        join s magicAt ((magic ++ x) ++ y) 12 z (simp length-leBytes) (rw length-leBytes (omega arith)),
+        join s magicAt (((magic ++ x) ++ y) ++ z) 16 w (simp (length-append, length-leBytes)) (omega arith),
+      )
+      (ap (splice s magicAt) (simp append-assoc))
+
+  -- the checksum is over what was just written
+  module _ (t : List ℕ) (sums : t ≡ splice (putSizes s g) magicAt (summedBytes g)) where
+    summed-part : part t magicAt 17 ≡ summedBytes g
+    summed-part =
+        let fits : magicAt + length (summedBytes g) ≤ length (putSizes s g) = omega (arith, length-summed g, length-putSizes s g room) in
+        rw sums (rw length-summed at (part-splice-in (putSizes s g) magicAt (summedBytes g) fits))
+
+    pub super-put : (k : ℕ) (u : List ℕ) → k ≡ checksumOf (part t magicAt 17) → k < 256 → u ≡ splice t (blockFieldAt + 1) (leBytes 1 k) → u ≡ splice s superBlockAt (superBlockBytes g)
+    unfolding putSizes superBlockBytes
+    super-put k u k-is k-fits e =
+        let z = k ∷ [] in
+        let i : checksumOf (summedBytes g) ≡ k = sym (k-is ∙ ap checksumOf summed-part) in
+        rw (
+          e,
+          sums,
+          byte-alone k k-fits,
+          join s superBlockAt (sizesBytes g) 24 (summedBytes g) (length-sizes g) (omega (arith, length-summed g)),
+          join s superBlockAt (sizesBytes g ++ summedBytes g) 41 z (omega (arith, length-append (sizesBytes g) (summedBytes g), length-sizes g, length-summed g)) (omega arith),
+          i,
+        )
+        (ap (splice s superBlockAt) (append-assoc (sizesBytes g) (summedBytes g) z))
