@@ -1,0 +1,53 @@
+-- The code's judgement in the rules' words, and what callers know of an image that opens.
+use Prim.Native.Nat.{ℕ, _≤_}
+use mathlib.Core.Path.{_≡_, refl, sym, ap, _∙_}
+use mathlib.Core.Bool.{true, false}
+use mathlib.Core.List.{List}
+use lib.ListN.{length}
+use Rattle.rules.specs.SuperBlock.{Geometry}
+use Rattle.rules.specs.SuperBlock.Laws.{GoodGeometry}
+use Rattle.rules.specs.Index.{itemsOf, entriesOf, indexSound}
+use Rattle.rules.specs.Refusals.{Verdict, refused, accepted, Volume, entries, judgeGeometry, judgeIndex, judge}
+use Rattle.rules.specs.Refusals.Laws.{judge-opens}
+use Rattle.geometry.specs.View.{geometryView}
+use Rattle.geometry.specs.declared.Geometry.{Geometry as Held}
+use Rattle.index.specs.View.{Inside, itemsFrom}
+use Rattle.index.specs.Steps.{Walks, entriesFrom}
+use Rattle.index.specs.declared.Cursor.{Cursor}
+use Rattle.super_block.specs.View.{Judged as GoodSuper}
+use Rattle.super_block.specs.Ends.{sound-walks}
+use Rattle.judging.specs.declared.Judged.{Judged}
+use Rattle.judging.specs.declared.Judged.the-variants.{Refused, Good}
+
+-- the super-block was found good, with the geometry g
+abbrev pub Super : List ℕ → Held → Type 0
+Super s g = GoodSuper s g
+
+-- a volume is its geometry and what its index yields
+abbrev pub volumeOf : List ℕ → Geometry → Volume
+volumeOf s g = record { geometry = g; items = itemsOf s g }
+
+unfoldable pub judgedView : List ℕ → Judged → Verdict Volume
+judgedView s (Refused n) = refused n
+judgedView s (Good g) = accepted (volumeOf s (geometryView g))
+
+abbrev pub indexJudged : List ℕ → Geometry → Verdict Volume
+indexJudged s g = judgeIndex s g (itemsOf s g)
+
+-- ---- an image that opens, with the geometry held
+abbrev pub Opened : List ℕ → Held → Type 0
+Opened s g = judge s ≡ accepted (volumeOf s (geometryView g))
+
+module _ (s : List ℕ) (g : Held) (opened : Opened s g) where
+  pub opened-super : GoodSuper s g
+  opened-super = let o = judge-opens s (volumeOf s (geometryView g)) opened in record { short = o .length-high; good = o .geometry-good }
+
+  pub opened-long : 512 ≤ length s
+  opened-long = judge-opens s (volumeOf s (geometryView g)) opened .length-low
+
+  -- the cursor at slot 1 walks through its entries
+  pub opened-walks : (c : Cursor) → itemsFrom s c ≡ itemsOf s (geometryView g) → Inside s c → Walks s c
+  opened-walks c i h = sound-walks s (geometryView g) c i h (judge-opens s (volumeOf s (geometryView g)) opened .index-sound)
+
+  pub opened-entries : (c : Cursor) → itemsFrom s c ≡ itemsOf s (geometryView g) → entriesFrom s c ≡ entries (volumeOf s (geometryView g))
+  opened-entries c i = ap entriesOf i
