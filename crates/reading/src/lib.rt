@@ -1,0 +1,178 @@
+// The reading calls: open, find, list and read. Each takes any image and any arguments.
+
+use geometry::Geometry;
+use index::Head;
+use judging::Judged;
+use paths::Search;
+ghost use mathlib.Core.Path.{_≡_};
+ghost use mathlib.Core.Bool.{true};
+ghost use mathlib.Core.List.{List};
+ghost use Prim.Native.Nat.{ℕ, _+_, _≤_};
+ghost use lib.ListN.{length};
+ghost use Rattle.rules.specs.Outcome.{noVolume, noEntry, noneListed, numbersOf};
+ghost use Rattle.rules.specs.Outcome.Laws.{denied};
+ghost use Rattle.rules.specs.Reading.{openOf, findOf, readOf, listOf, volumeNumbers};
+ghost use Rattle.rules.specs.Index.{volumeName, runType};
+ghost use Rattle.geometry.specs.View.{geometryView};
+ghost use Rattle.index.specs.View.{headView};
+ghost use Rattle.index.specs.Steps.{HeadIn};
+ghost use Rattle.judging.specs.View.{Opened};
+ghost use Rattle.reading.specs.View.{volumeView, volumeAnswer, entryView, entryAnswer, contentView, listedView};
+
+#[repr(C)]
+pub struct Volume {
+    pub refusal: u32,
+    pub version: u32,
+    pub total: u64,
+    pub reserved: u64,
+    pub block: u64,
+    pub data: u64,
+    pub index: u64,
+    pub stamp: i64,
+    pub formatted: i64,
+    pub name: u64,
+}
+
+#[repr(C)]
+pub struct Entry {
+    pub refusal: u32,
+    pub kind: u32,
+    pub slot: u64,
+    pub start: u64,
+    pub end: u64,
+    pub length: u64,
+    pub stamp: i64,
+}
+
+#[repr(C)]
+pub struct Listed {
+    pub refusal: u32,
+    pub kind: u32,
+    pub slot: u64,
+    pub start: u64,
+    pub end: u64,
+    pub length: u64,
+    pub stamp: i64,
+    pub path: u64,
+}
+
+#[repr(C)]
+pub struct Content {
+    pub refusal: u32,
+    pub length: u64,
+}
+
+// ---- open
+
+fn no_volume(n: u32) -> Volume
+    ensures { λ r. ⌜ ((s out : List ℕ) → volumeView s out r ≡ denied noVolume s out n) ⌝ }
+{
+    Volume {
+        refusal: n,
+        version: 0,
+        total: 0,
+        reserved: 0,
+        block: 0,
+        data: 0,
+        index: 0,
+        stamp: 0,
+        formatted: 0,
+        name: 0,
+    }
+}
+
+// The numbers of a volume whose name has n bytes.
+fn volume_numbers(img: &[u8], g: Geometry, n: usize) -> Volume
+    requires { ⌜ (64 ≤ length (now img)) × (g .field ≤ 5) × (n ≡ length (volumeName (now img))) ⌝ }
+    ensures { λ r. ⌜ (r .refusal ≡ 0) × (volumeAnswer r ≡ volumeNumbers (now (img .entry)) (geometryView g)) ⌝ }
+{
+    let at = img.len() - 60;
+    Volume {
+        refusal: 0,
+        version: g.version as u32,
+        total: g.total,
+        reserved: g.reserved as u64,
+        block: g.block_length(),
+        data: g.data,
+        index: g.index,
+        stamp: stamps::from_bits(g.stamp),
+        formatted: stamps::from_bits(fields::le64_at(img, at)),
+        name: n as u64,
+    }
+}
+
+fn open_volume(img: &[u8], g: Geometry, out: &mut [u8]) -> Volume
+    requires { ⌜ Opened (now img) g ⌝ }
+    ensures { λ r. ⌜ volumeView (now (img .entry)) (now (out .exit)) r ≡ openOf (now (img .entry)) (now (out .entry)) ⌝ }
+{
+    let n = super_block::volume_name_len(img);
+    if out.len() < n {
+        return no_volume(18);
+    }
+    let at = img.len() - 52;
+    let end = at + n;
+    copying::copy_into(out, &img[at..end]);
+    volume_numbers(img, g, n)
+}
+
+pub fn open(img: &[u8], out: &mut [u8]) -> Volume
+    ensures { λ r. ⌜ volumeView (now (img .entry)) (now (out .exit)) r ≡ openOf (now (img .entry)) (now (out .entry)) ⌝ }
+{
+    match judging::judge(img) {
+        Judged::Refused(n) => no_volume(n as u32),
+        Judged::Good(g) => open_volume(img, g, out),
+    }
+}
+
+// ---- find
+
+fn no_entry(n: u32) -> Entry
+    ensures { λ r. ⌜ ((s : List ℕ) → entryView s r ≡ denied noEntry s [] n) ⌝ }
+{
+    Entry {
+        refusal: n,
+        kind: 0,
+        slot: 0,
+        start: 0,
+        end: 0,
+        length: 0,
+        stamp: 0,
+    }
+}
+
+fn entry_numbers(h: Head) -> Entry
+    ensures { λ r. ⌜ (r .refusal ≡ 0) × ((s : List ℕ) → entryAnswer r ≡ numbersOf (headView s h)) ⌝ }
+{
+    Entry {
+        refusal: 0,
+        kind: h.kind as u32,
+        slot: h.slot.0,
+        start: h.start.0,
+        end: h.end.0,
+        length: h.length,
+        stamp: stamps::from_bits(h.stamp),
+    }
+}
+
+fn find_entry(img: &[u8], g: Geometry, path: &[u8]) -> Entry
+    requires { ⌜ Opened (now img) g ⌝ }
+    ensures { λ r. ⌜ entryView (now (img .entry)) r ≡ findOf (now (img .entry)) (now (path .entry)) ⌝ }
+{
+    if !names::path_good(path) {
+        return no_entry(10);
+    }
+    let from = super_block::first_slot(img, g);
+    match paths::lookup(img, from, path) {
+        Search::Nothing => no_entry(11),
+        Search::Entry(h) => entry_numbers(h),
+    }
+}
+
+pub fn find(img: &[u8], path: &[u8]) -> Entry
+    ensures { λ r. ⌜ entryView (now (img .entry)) r ≡ findOf (now (img .entry)) (now (path .entry)) ⌝ }
+{
+    match judging::judge(img) {
+        Judged::Refused(n) => no_entry(n as u32),
+        Judged::Good(g) => find_entry(img, g, path),
+    }
+}
