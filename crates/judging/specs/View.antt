@@ -51,3 +51,13 @@ module _ (s : List ℕ) (g : Held) (opened : Opened s g) where
 
   pub opened-entries : (c : Cursor) → itemsFrom s c ≡ itemsOf s (geometryView g) → entriesFrom s c ≡ entries (volumeOf s (geometryView g))
   opened-entries c i = ap entriesOf i
+
+-- ---- what a judgement says
+module _ (s : List ℕ) (r : Judged) (told : judgedView s r ≡ judge s) where
+  pub refused-says : (n : ℕ) → r ≡ Refused n → judge s ≡ refused n
+  unfolding judgedView
+  refused-says n e = sym told ∙ ap (judgedView s) e
+
+  pub good-says : (g : Held) → r ≡ Good g → Opened s g
+  unfolding judgedView
+  good-says g e = sym told ∙ ap (judgedView s) e

@@ -6,7 +6,7 @@ use judging::Judged;
 use paths::Search;
 ghost use mathlib.Core.Path.{_≡_};
 ghost use mathlib.Core.Bool.{true};
-ghost use mathlib.Core.List.{List};
+ghost use mathlib.Core.List.{List, []};
 ghost use Prim.Native.Nat.{ℕ, _+_, _≤_};
 ghost use lib.ListN.{length};
 ghost use Rattle.rules.specs.Outcome.{noVolume, noEntry, noneListed, numbersOf};
@@ -17,7 +17,8 @@ ghost use Rattle.geometry.specs.View.{geometryView};
 ghost use Rattle.index.specs.View.{headView};
 ghost use Rattle.index.specs.Steps.{HeadIn};
 ghost use Rattle.judging.specs.View.{Opened};
-ghost use Rattle.reading.specs.View.{volumeView, volumeAnswer, entryView, entryAnswer, contentView, listedView};
+ghost use Rattle.reading.specs.View.{volumeView, volumeAnswer, entryView, entryAnswer, contentView, listedView, listedAnswer};
+ghost use Rattle.reading.specs.Found.{FileIn, readEntry, listEntry};
 
 #[repr(C)]
 pub struct Volume {
@@ -174,5 +175,128 @@ pub fn find(img: &[u8], path: &[u8]) -> Entry
     match judging::judge(img) {
         Judged::Refused(n) => no_entry(n as u32),
         Judged::Good(g) => find_entry(img, g, path),
+    }
+}
+
+// ---- read
+
+fn no_content(n: u32) -> Content
+    ensures { λ r. ⌜ ((s out : List ℕ) → contentView s out r ≡ denied 0 s out n) ⌝ }
+{
+    Content {
+        refusal: n,
+        length: 0,
+    }
+}
+
+// The bytes of a file, at the start of out.
+fn read_file(img: &[u8], g: Geometry, h: Head, out: &mut [u8]) -> Content
+    requires { ⌜ Opened (now img) g × FileIn (now img) g h ⌝ }
+    ensures { λ r. ⌜ contentView (now (img .entry)) (now (out .exit)) r ≡ readEntry (now (img .entry)) (geometryView g) (headView (now (img .entry)) h) (now (out .entry)) ⌝ }
+{
+    if h.kind != 0x12 {
+        return no_content(17);
+    }
+    let n = h.length;
+    if (out.len() as u64) < n {
+        return no_content(18);
+    }
+    let at = (h.start.0 * g.block_length()) as usize;
+    let end = at + n as usize;
+    copying::copy_into(out, &img[at..end]);
+    Content {
+        refusal: 0,
+        length: n,
+    }
+}
+
+fn read_entry(img: &[u8], g: Geometry, path: &[u8], out: &mut [u8]) -> Content
+    requires { ⌜ Opened (now img) g ⌝ }
+    ensures { λ r. ⌜ contentView (now (img .entry)) (now (out .exit)) r ≡ readOf (now (img .entry)) (now (path .entry)) (now (out .entry)) ⌝ }
+{
+    if !names::path_good(path) {
+        return no_content(10);
+    }
+    let from = super_block::first_slot(img, g);
+    match paths::lookup(img, from, path) {
+        Search::Nothing => no_content(11),
+        Search::Entry(h) => read_file(img, g, h, out),
+    }
+}
+
+pub fn read(img: &[u8], path: &[u8], out: &mut [u8]) -> Content
+    ensures { λ r. ⌜ contentView (now (img .entry)) (now (out .exit)) r ≡ readOf (now (img .entry)) (now (path .entry)) (now (out .entry)) ⌝ }
+{
+    match judging::judge(img) {
+        Judged::Refused(n) => no_content(n as u32),
+        Judged::Good(g) => read_entry(img, g, path, out),
+    }
+}
+
+// ---- list
+
+fn none_listed(n: u32) -> Listed
+    ensures { λ r. ⌜ ((s out : List ℕ) → listedView s out r ≡ denied noneListed s out n) ⌝ }
+{
+    Listed {
+        refusal: n,
+        kind: 0,
+        slot: 0,
+        start: 0,
+        end: 0,
+        length: 0,
+        stamp: 0,
+        path: 0,
+    }
+}
+
+fn listed_numbers(h: Head, n: usize) -> Listed
+    ensures { λ r. ⌜ (r .refusal ≡ 0) × ((s : List ℕ) → listedAnswer r ≡ record { found = numbersOf (headView s h); pathLength = n }) ⌝ }
+{
+    Listed {
+        refusal: 0,
+        kind: h.kind as u32,
+        slot: h.slot.0,
+        start: h.start.0,
+        end: h.end.0,
+        length: h.length,
+        stamp: stamps::from_bits(h.stamp),
+        path: n as u64,
+    }
+}
+
+// The entry's numbers, and its path at the start of out.
+fn list_entry(img: &[u8], h: Head, out: &mut [u8]) -> Listed
+    requires { ⌜ HeadIn (now img) h × (runType (h .kind) ≡ true) ⌝ }
+    ensures { λ r. ⌜ listedView (now (img .entry)) (now (out .exit)) r ≡ listEntry (now (img .entry)) (headView (now (img .entry)) h) (now (out .entry)) ⌝ }
+{
+    let name = paths::name_of(img, h);
+    let n = name.len;
+    if out.len() < n {
+        return none_listed(18);
+    }
+    let at = name.at;
+    let end = at + n;
+    copying::copy_into(out, &img[at..end]);
+    listed_numbers(h, n)
+}
+
+fn list_from(img: &[u8], g: Geometry, slot: u64, out: &mut [u8]) -> Listed
+    requires { ⌜ Opened (now img) g ⌝ }
+    ensures { λ r. ⌜ listedView (now (img .entry)) (now (out .exit)) r ≡ listOf (now (img .entry)) slot (now (out .entry)) ⌝ }
+{
+    let from = super_block::first_slot(img, g);
+    match paths::next_live(img, from, slot) {
+        Search::Nothing => none_listed(0),
+        Search::Entry(h) => list_entry(img, h, out),
+    }
+}
+
+pub fn list(img: &[u8], slot: u64, out: &mut [u8]) -> Listed
+    ensures { λ r. ⌜ listedView (now (img .entry)) (now (out .exit)) r ≡ listOf (now (img .entry)) slot (now (out .entry)) ⌝ }
+{
+    match judging::judge(img) {
+        Judged::Refused(n) => none_listed(n as u32),
+        Judged::Good(g) => list_from(img, g, slot, out),
     }
 }

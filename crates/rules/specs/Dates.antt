@@ -7,6 +7,7 @@ use lib.Dec.{ltb, leb}
 use lib.IntN.{ℤ, pos, negsuc, natAbs, _+ℤ_, _*ℤ_}
 use Rattle.rules.specs.Lists.{pick}
 pub mod Laws
+pub mod Text
 
 -- rounded down, by a number above 0: -(n + 1) divided by b is -(n / b + 1)
 unfoldable pub floorDiv : ℤ → ℕ → ℤ

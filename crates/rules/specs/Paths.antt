@@ -7,6 +7,7 @@ use lib.Dec.{eqb, leb}
 use Rattle.rules.specs.Lists.{all, any, everyTwo, first, only, eqList}
 use Rattle.rules.specs.Names.{leading, isBelow}
 use Rattle.rules.specs.Index.{Entry, liveType, typeDirectory}
+pub mod Laws
 
 unfoldable pub isLive : Entry → Bool
 isLive e = liveType (e .kind)

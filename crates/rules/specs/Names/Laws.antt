@@ -1,16 +1,17 @@
 -- Laws of names and paths: by cases, joined by a slash, and what is sure of one that is good.
-use Prim.Native.Nat.{ℕ, _≤_, _<_}
+use Prim.Native.Nat.{ℕ, suc, _-_, _≤_, _<_}
 use mathlib.Core.Path.{_≡_, refl, sym, ap, ap₂, _∙_}
 use mathlib.Core.Bool.{Bool, true, false, _&&_, not}
-use mathlib.Core.List.{List, [], _∷_, _++_}
+use mathlib.Core.List.{List, [], _∷_, _++_, map, map-append}
 use native.Mathlib.Omega.{arith}
-use lib.ListN.{length}
+use lib.ListN.{length, getD, take}
+use lib.Seq.{take-suc}
 use lib.Dec.{eqb, leb}
-use borrow.Author.Tests.{ne-eqb, le-leb, lt-leb, leb-true}
+use borrow.Author.Tests.{eq-eqb, ne-eqb, le-leb, lt-leb, leb-true}
 use Rattle.rules.specs.Lists.{pick, all, any, eqList}
-use Rattle.rules.specs.Lists.Laws.{clash, pick-false, and-true, and-both, all-append}
+use Rattle.rules.specs.Lists.Laws.{clash, pick-false, and-true, and-both, and-right, all-append}
 use Rattle.rules.specs.Fields.{upToZero, hasZero}
-use Rattle.rules.specs.Names.{slash, isMark, byteGood, textGood, intoFirst, parts, partGood, pathGood, newPathGood, volumeTextGood, volumeNameGood}
+use Rattle.rules.specs.Names.{slash, isMark, byteGood, textGood, intoFirst, parts, partGood, pathGood, newPathGood, volumeTextGood, volumeNameGood, leadIf, leading, isBelow}
 
 -- ---- bytes
 module _ (b : ℕ) where
@@ -158,3 +159,52 @@ volume-name n e = let r = and-true (volumeTextGood n) (leb (length n) 51) e in (
 pub volume-name-nil : volumeNameGood [] ≡ true
 unfolding volumeNameGood volumeTextGood any
 volume-name-nil = rw text-nil
+
+-- ---- below a path, by what stands behind the path's own bytes
+pub below-short : (a p : List ℕ) → length p ≤ length a → isBelow a p ≡ false
+unfolding isBelow
+below-short a [] h = refl
+below-short [] (b ∷ bs) h = absurd (omega arith)
+below-short (x ∷ xs) (b ∷ bs) h = and-right (eqb x b) _ (below-short xs bs (omega arith))
+
+pub below-other : (a p : List ℕ) → length a < length p → (getD p (length a) 0 ≡ slash → ⊥) → isBelow a p ≡ false
+unfolding isBelow
+below-other a [] h d = refl
+below-other [] (b ∷ bs) h d = ne-eqb b slash d
+below-other (x ∷ xs) (b ∷ bs) h d = and-right (eqb x b) _ (below-other xs bs (omega arith) d)
+
+pub below-slash : (a p : List ℕ) → length a < length p → getD p (length a) 0 ≡ slash → isBelow a p ≡ eqList a (take (length a) p)
+unfolding isBelow eqList
+below-slash a [] h e = absurd (omega arith)
+below-slash [] (b ∷ bs) h e = eq-eqb b slash e
+below-slash (x ∷ xs) (b ∷ bs) h e = ap (λ t. eqb x b && t) (below-slash xs bs (omega arith) e)
+
+-- ---- leading paths, with one byte more behind
+lead-slash : (xs : List ℕ) → leading (xs ++ slash ∷ []) ≡ leading xs ++ (xs ∷ [])
+unfolding leading leadIf
+lead-slash [] = refl
+lead-slash (b ∷ bs) = rw (lead-slash bs, map-append) (by (eqb b slash))
+  where
+    by : (t : Bool) → leadIf t (map (λ p. b ∷ p) (leading bs) ++ ((b ∷ bs) ∷ [])) ≡ leadIf t (map (λ p. b ∷ p) (leading bs)) ++ ((b ∷ bs) ∷ [])
+    by true = refl
+    by false = refl
+
+lead-other : (xs : List ℕ) (c : ℕ) → (c ≡ slash → ⊥) → leading (xs ++ c ∷ []) ≡ leading xs
+unfolding leading leadIf
+lead-other [] c d = rw (ne-eqb c slash d)
+lead-other (b ∷ bs) c d = rw (lead-other bs c d)
+
+-- a path cut before its byte i - 1, and behind it
+module _ (s : List ℕ) (i : ℕ) (more : 0 < i) (fits : i ≤ length s) where
+  take-last : take i s ≡ take (i - 1) s ++ (getD s (i - 1) 0 ∷ [])
+  take-last = let e : i ≡ suc (i - 1) = omega arith in ap (λ (k : ℕ). take k s) e ∙ take-suc s (i - 1) 0 (omega arith)
+
+  pub leading-slash : getD s (i - 1) 0 ≡ slash → leading (take i s) ≡ leading (take (i - 1) s) ++ (take (i - 1) s ∷ [])
+  leading-slash e = ap leading take-last ∙ rw e (lead-slash (take (i - 1) s))
+
+  pub leading-other : (getD s (i - 1) 0 ≡ slash → ⊥) → leading (take i s) ≡ leading (take (i - 1) s)
+  leading-other d = ap leading take-last ∙ lead-other (take (i - 1) s) (getD s (i - 1) 0) d
+
+pub leading-nil : leading [] ≡ []
+unfolding leading
+leading-nil = refl

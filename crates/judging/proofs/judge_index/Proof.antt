@@ -1,0 +1,70 @@
+use mathlib.Core.Path.{_≡_, sym, ap, _∙_}
+use mathlib.Core.Bool.{true}
+use denote.Ref.{now}
+use borrow.Author.Tests.{not-true, not-false}
+use Rattle.rules.specs.Index.{entriesOf, indexSound, itemsOf}
+use Rattle.rules.specs.Regions.{regionsSound}
+use Rattle.rules.specs.Paths.{pathsSound}
+use Rattle.rules.specs.Refusals.Laws.{index-bad-slots, index-bad-regions, index-bad-paths, index-good}
+use Rattle.geometry.specs.View.{geometryView}
+use Rattle.index.specs.Steps.{Walks}
+use Rattle.super_block.specs.Ends.{sound-walks}
+use Rattle.regions.specs.Bounds.{good-bounded}
+use Rattle.judging.specs.View.{judgedView}
+use borrow.Author.Needs.{needs}
+use Rattle.judging.proofs.judge_index.Statement.{statement}
+use Rattle.judging.proofs.judge_index.Tie as tie
+
+-- the passes that were passed
+index-is : (c : tie.Else1) → indexSound (now (c .before .before .before .args .img)) (geometryView (c .before .before .before .args .g)) (itemsOf (now (c .before .before .before .args .img)) (geometryView (c .before .before .before .args .g))) ≡ true
+index-is c = sym (c .before .index-sound .ensures) ∙ not-false _ (c .if1 .left)
+
+walks : (c : tie.After-first-slot) → Walks (now (c .before .before .before .before .args .img)) (c .first-slot .result)
+walks c = sound-walks (now (c .before .before .before .before .args .img)) (geometryView (c .before .before .before .before .args .g)) (c .first-slot .result) (c .first-slot .ensures .0) (c .first-slot .ensures .1) (index-is (c .before))
+
+regions-are : (c : tie.After-regions-sound) → c .regions-sound .result ≡ regionsSound (geometryView (c .before .before .before .before .before .args .g)) (entriesOf (itemsOf (now (c .before .before .before .before .before .args .img)) (geometryView (c .before .before .before .before .before .args .g))))
+regions-are c = c .regions-sound .ensures ∙ ap (λ is. regionsSound (geometryView (c .before .before .before .before .before .args .g)) (entriesOf is)) (c .before .first-slot .ensures .0)
+
+paths-are : (c : tie.After-paths-sound) → c .paths-sound .result ≡ pathsSound (entriesOf (itemsOf (now (c .before .before .before .before .before .before .before .args .img)) (geometryView (c .before .before .before .before .before .before .before .args .g))))
+paths-are c = c .paths-sound .ensures ∙ ap (λ is. pathsSound (entriesOf is)) (c .before .before .before .first-slot .ensures .0)
+
+index-sound-requires : tie.Need-index-sound-requires
+index-sound-requires c κs = search needs
+
+returns : tie.Need-returns
+unfolding judgedView
+returns c = sym (index-bad-slots _ _ _ (sym (c .before .index-sound .ensures) ∙ not-true _ (c .if1 .taken)))
+
+first-slot-requires : tie.Need-first-slot-requires
+first-slot-requires c κs = search needs
+
+regions-sound-requires : tie.Need-regions-sound-requires
+regions-sound-requires c κs = (good-bounded _ _ (c .before .before .before .before .pre .good) (c .before .before .before .before .pre .short), walks c)
+
+returns-2 : tie.Need-returns-2
+unfolding judgedView
+returns-2 c = sym (index-bad-regions _ _ _ (index-is (c .before .before .before)) (sym (regions-are (c .before)) ∙ not-true _ (c .if2 .taken)))
+
+paths-sound-requires : tie.Need-paths-sound-requires
+paths-sound-requires c κs = walks (c .before .before)
+
+returns-3 : tie.Need-returns-3
+unfolding judgedView
+returns-3 c = sym (index-bad-paths _ _ _ (index-is (c .before .before .before .before .before)) (sym (regions-are (c .before .before .before)) ∙ not-false _ (c .before .before .if2 .left)) (sym (paths-are (c .before)) ∙ not-true _ (c .if3 .taken)))
+
+returns-4 : tie.Need-returns-4
+unfolding judgedView
+returns-4 c = sym (index-good _ _ _ (index-is (c .before .before .before .before .before)) (sym (regions-are (c .before .before .before)) ∙ not-false _ (c .before .before .if2 .left)) (sym (paths-are (c .before)) ∙ not-false _ (c .if3 .left)))
+
+pub judge-index-spec : {M : Type 1} → statement M
+judge-index-spec =
+    tie.close
+    (tie.spec
+    index-sound-requires
+    returns
+    first-slot-requires
+    regions-sound-requires
+    returns-2
+    paths-sound-requires
+    returns-3
+    returns-4)

@@ -1,0 +1,21 @@
+use Rattle.rules.specs.Paths.Laws.{any-first}
+use Rattle.rules.specs.Paths.{directoryLive}
+use Rattle.rules.specs.Lists.{isSome}
+use Rattle.paths.specs.View.{passes, found-view}
+use mathlib.Core.Path.{sym, ap, _∙_}
+use borrow.Author.Needs.{needs}
+use Rattle.paths.proofs.directory_live.Statement.{statement}
+use Rattle.paths.proofs.directory_live.Tie as tie
+
+seek-requires : tie.Need-seek-requires
+seek-requires c κs = search needs
+
+is-found-requires : tie.Need-is-found-requires
+is-found-requires c κs = search needs
+
+returns : tie.Need-returns
+unfolding directoryLive passes
+returns c = c .is-found .ensures ∙ found-view _ _ ∙ ap isSome (c .before .seek .ensures .view) ∙ sym (any-first _ _)
+
+pub directory-live-spec : {M : Type 1} → statement M
+directory-live-spec = tie.close (tie.spec seek-requires is-found-requires returns)

@@ -1,0 +1,108 @@
+-- Tests over entries, one at a time; and where a head's name lies.
+use Prim.Native.Nat.{ℕ, _+_, _-_, _*_, _≤_}
+use mathlib.Core.Path.{_≡_, sym, ap, _∙_}
+use mathlib.Core.Bool.{Bool, true, false}
+use mathlib.Core.List.{List, [], _∷_}
+use mathlib.Core.Option.{none, some}
+use native.Mathlib.Omega.{arith}
+use lib.ListN.{length, take, drop, length-take, length-drop}
+use lib.Seq.{take-take}
+use borrow.Author.Tests.{eq-eqb, ne-eqb}
+use Rattle.rules.specs.Lists.{first, eqList, part}
+use Rattle.rules.specs.Lists.Laws.{first-nil, first-here, first-later, pick-true}
+use Rattle.rules.specs.Fields.{byteAt, upToZero}
+use Rattle.rules.specs.Fields.Laws.{upToZero-take}
+use Rattle.rules.specs.Index.{Entry, runType, liveType, typeDirectory, nameField, nameAt, runSlots}
+use Rattle.rules.specs.Names.{isBelow}
+use Rattle.rules.specs.Paths.{isLive, liveAt, isDirectoryAt}
+use Rattle.rules.specs.Index.Items.{name-field, byte-drop, type-drop}
+use Rattle.index.specs.declared.Cursor.{Cursor}
+use Rattle.index.specs.declared.Head.{Head}
+use Rattle.index.specs.declared.Next.{Next}
+use Rattle.index.specs.declared.Next.the-variants.{End, Found}
+use Rattle.index.specs.View.{headView, pathAt}
+use Rattle.index.specs.Steps.{HeadIn, Step, Told, entriesFrom}
+use Rattle.paths.specs.View.{liveBelow}
+
+-- ---- what a step said, by its answer
+module _ (s : List ℕ) (c : Cursor) (r : Next) (told : Told s c r) where
+  pub told-end : r ≡ End → entriesFrom s c ≡ []
+  unfolding Told
+  told-end e = rw e at told
+
+  pub told-found : (h : Head) (d : Cursor) → r ≡ Found h d → Step s c h d
+  unfolding Told
+  told-found h d e = rw e at told
+
+-- ---- a turn of a walk over es: none is left, or x is next and xs behind it
+module _ (p : Entry → Bool) (es : List Entry) where
+  pub first-end : es ≡ [] → first p es ≡ none
+  first-end e = rw e (first-nil p)
+
+  module _ (x : Entry) (xs : List Entry) (next : es ≡ x ∷ xs) where
+    pub first-stop : p x ≡ true → first p es ≡ some x
+    first-stop t = rw next (first-here p x xs t)
+
+    pub first-next : p x ≡ false → first p xs ≡ first p es
+    first-next t = sym (rw next (first-later p x xs t))
+
+-- ---- the name of a head's run, of which the field starts nm bytes behind the slot and the first zero lies at n
+module _ (s : List ℕ) (h : Head) (head : HeadIn s h) (run : runType (h .kind) ≡ true) where
+  path-is : headView s h .path ≡ upToZero (nameField (drop (h .at .0) s))
+  unfolding headView pathAt
+  path-is = pick-true _ _ run
+
+  slots-is : runSlots (drop (h .at .0) s) ≡ h .slots
+  unfolding runSlots
+  slots-is = ap (λ (x : ℕ). 1 + x) (byte-drop s (h .at .0) 1) ∙ sym (head .count run)
+
+  type-is : byteAt (drop (h .at .0) s) 0 ≡ h .kind
+  type-is = type-drop s (h .at .0) ∙ sym (head .type run)
+
+  module _ (nm n : ℕ) (name : nm ≡ nameAt (h .kind)) where
+    abbrev field : List ℕ
+    field = take (h .at .0 + 64 * h .slots - (h .at .0 + nm)) (drop (h .at .0 + nm) s)
+
+    pub name-fits : nm ≤ 34 → n ≤ length field → h .at .0 + nm + n ≤ length s
+    name-fits w l =
+        let m : ℕ = h .at .0 + 64 * h .slots - (h .at .0 + nm) in
+        omega (arith, head .fits, head .low, length-take m (drop (h .at .0 + nm) s), length-drop (h .at .0 + nm) s)
+
+    pub name-part : n ≡ length (upToZero field) → n ≤ length field → part s (h .at .0 + nm) n ≡ headView s h .path
+    unfolding part
+    name-part e l =
+        let f : nameField (drop (h .at .0) s) ≡ field = name-field s (h .at .0) ∙ rw (slots-is, type-is, ← name) in
+        let m : ℕ = h .at .0 + 64 * h .slots - (h .at .0 + nm) in
+        let b : n ≤ m = omega (arith, length-take m (drop (h .at .0 + nm) s)) in
+        sym (path-is ∙ ap upToZero f ∙ upToZero-take field ∙ rw (← e) (take-take n m (drop (h .at .0 + nm) s) b))
+
+-- what is lent from a name's place up to its end
+pub lent-name : (s : List ℕ) (at n : ℕ) → take (at + n - at) (drop at s) ≡ part s at n
+unfolding part
+lent-name s at n = let e : at + n - at ≡ n = omega arith in rw e
+
+-- ---- a head is tested by its type first
+module _ (s p : List ℕ) (h : Head) where
+  pub live-no : liveType (h .kind) ≡ false → liveAt p (headView s h) ≡ false
+  unfolding liveAt isLive headView
+  live-no t = rw t
+
+  pub live-yes : liveType (h .kind) ≡ true → liveAt p (headView s h) ≡ eqList (headView s h .path) p
+  unfolding liveAt isLive headView
+  live-yes t = rw t
+
+  pub below-no : liveType (h .kind) ≡ false → liveBelow p (headView s h) ≡ false
+  unfolding liveBelow isLive headView
+  below-no t = rw t
+
+  pub below-yes : liveType (h .kind) ≡ true → liveBelow p (headView s h) ≡ isBelow p (headView s h .path)
+  unfolding liveBelow isLive headView
+  below-yes t = rw t
+
+  pub directory-no : (h .kind ≡ typeDirectory → ⊥) → isDirectoryAt p (headView s h) ≡ false
+  unfolding isDirectoryAt headView
+  directory-no d = rw (ne-eqb (h .kind) typeDirectory d)
+
+  pub directory-yes : h .kind ≡ typeDirectory → isDirectoryAt p (headView s h) ≡ eqList (headView s h .path) p
+  unfolding isDirectoryAt headView
+  directory-yes e = rw (eq-eqb (h .kind) typeDirectory e)

@@ -1,0 +1,69 @@
+-- The code's answers in the rules' words.
+use Prim.Native.Nat.{ℕ}
+use mathlib.Core.Path.{_≡_, refl, sym, ap, _∙_}
+use mathlib.Core.Bool.{Bool, true, false, _&&_}
+use mathlib.Core.List.{List}
+use mathlib.Core.Option.{Option, none, some}
+use lib.Dec.{leb}
+use Rattle.rules.specs.Lists.{isSome}
+use Rattle.rules.specs.Names.{isBelow}
+use Rattle.rules.specs.Index.{Entry}
+use Rattle.rules.specs.Paths.{isLive, liveAt, isDirectoryAt}
+use Rattle.index.specs.declared.Head.{Head}
+use Rattle.index.specs.View.{headView}
+use Rattle.index.specs.Steps.{HeadIn}
+use Rattle.paths.specs.declared.Search.{Search}
+use Rattle.paths.specs.declared.Search.the-variants.{Nothing, Entry as found}
+use Rattle.paths.specs.declared.Sought.{Sought}
+use Rattle.paths.specs.declared.Sought.the-variants.{Path as byPath, Directory as byDirectory, Below as byBelow, From as bySlot}
+
+-- ---- what is looked for
+unfoldable pub liveBelow : List ℕ → Entry → Bool
+liveBelow p e = isLive e && isBelow p (e .path)
+
+unfoldable pub passes : Sought → List ℕ → Entry → Bool
+passes byPath p e = liveAt p e
+passes byDirectory p e = isDirectoryAt p e
+passes byBelow p e = liveBelow p e
+passes (bySlot k) p e = isLive e && leb k (e .slot)
+
+-- ---- what was found
+unfoldable pub searchView : List ℕ → Search → Option Entry
+searchView s Nothing = none
+searchView s (found h) = some (headView s h)
+
+-- an entry that was found lies in the image
+unfoldable pub Lies : List ℕ → Search → Type 0
+Lies s Nothing = Unit {0}
+Lies s (found h) = HeadIn s h
+
+pub record Searched (s : List ℕ) (o : Option Entry) (r : Search) : Type 0 where
+  pub view : searchView s r ≡ o
+  pub lies : Lies s r
+
+pub searched-none : (s : List ℕ) (o : Option Entry) → o ≡ none → Searched s o Nothing
+unfolding searchView Lies
+searched-none s o e = record { view = sym e; lies = tt }
+
+pub searched-some : (s : List ℕ) (o : Option Entry) (h : Head) → o ≡ some (headView s h) → HeadIn s h → Searched s o (found h)
+unfolding searchView Lies
+searched-some s o h e i = record { view = sym e; lies = i }
+
+-- what an answer says, by what it is
+module _ (s : List ℕ) (o : Option Entry) (r : Search) (told : Searched s o r) where
+  pub searched-nothing : r ≡ Nothing → o ≡ none
+  unfolding searchView
+  searched-nothing e = sym (told .view) ∙ ap (searchView s) e
+
+  pub searched-entry : (h : Head) → r ≡ found h → (o ≡ some (headView s h)) × HeadIn s h
+  unfolding searchView Lies
+  searched-entry h e = (sym (told .view) ∙ ap (searchView s) e, rw e at (told .lies))
+
+unfoldable pub isFound : Search → Bool
+isFound Nothing = false
+isFound (found h) = true
+
+pub found-view : (s : List ℕ) (r : Search) → isFound r ≡ isSome (searchView s r)
+unfolding isFound searchView isSome
+found-view s Nothing = refl
+found-view s (found h) = refl

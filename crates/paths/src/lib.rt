@@ -1,0 +1,219 @@
+// Paths of entries, compared with a path and looked up, by walks from entry to entry.
+
+use index::Cursor;
+use index::Head;
+use index::Next;
+use index::next_entry;
+ghost use mathlib.Core.Path.{_≡_};
+ghost use mathlib.Core.Bool.{true, _&&_};
+ghost use Prim.Native.Nat.{_+_, _≤_};
+ghost use lib.ListN.{length};
+ghost use lib.Dec.{leb};
+ghost use Rattle.rules.specs.Lists.{eqList, first, part};
+ghost use Rattle.rules.specs.Names.{isBelow};
+ghost use Rattle.rules.specs.Index.{liveType, runType};
+ghost use Rattle.rules.specs.Paths.{liveAt, isDirectoryAt, lookup, nextLive, directoryLive, anyBelow};
+ghost use Rattle.index.specs.View.{headView};
+ghost use Rattle.index.specs.Steps.{Walks, HeadIn, entriesFrom};
+ghost use Rattle.paths.specs.View.{Searched, isFound, liveBelow, passes};
+
+// Where a name lies in the image.
+pub struct Name {
+    pub at: usize,
+    pub len: usize,
+}
+
+pub enum Search {
+    Nothing,
+    Entry(Head),
+}
+
+pub fn same_bytes(a: &[u8], b: &[u8]) -> bool
+    ensures { λ r. ⌜ r ≡ eqList (now (a .entry)) (now (b .entry)) ⌝ }
+{
+    if a.len() != b.len() {
+        return false;
+    }
+    let mut i: usize = 0;
+    while i < a.len() {
+        if a[i] != b[i] {
+            return false;
+        }
+        i += 1;
+    }
+    true
+}
+
+// Whether the path begins with `above` and a slash.
+pub fn is_below(above: &[u8], path: &[u8]) -> bool
+    ensures { λ r. ⌜ r ≡ isBelow (now (above .entry)) (now (path .entry)) ⌝ }
+{
+    let n = above.len();
+    if path.len() <= n {
+        return false;
+    }
+    if path[n] != b'/' {
+        return false;
+    }
+    same_bytes(above, &path[..n])
+}
+
+pub fn is_live(kind: u8) -> bool
+    ensures { λ r. ⌜ r ≡ liveType kind ⌝ }
+{
+    if kind == 0x11 {
+        return true;
+    }
+    kind == 0x12
+}
+
+// Where the name of a run lies: it ends at the first zero of its field.
+pub fn name_of(img: &[u8], h: Head) -> Name
+    requires { ⌜ HeadIn (now img) h × (runType (h .kind) ≡ true) ⌝ }
+    ensures { λ r. ⌜ part (now (img .entry)) (r .at) (r .len) ≡ headView (now (img .entry)) h .path ⌝ }
+    ensures inside { λ r. ⌜ r .at + r .len ≤ length (now (img .entry)) ⌝ }
+{
+    let at = h.at.0;
+    let name = at + names::name_at(h.kind) as usize;
+    let end = at + (64 * h.slots) as usize;
+    Name {
+        at: name,
+        len: fields::zero_at(&img[name..end]),
+    }
+}
+
+// The path of a run, as a part of the image.
+pub fn path_of(img: &[u8], h: Head) -> &[u8]
+    requires { ⌜ HeadIn (now img) h × (runType (h .kind) ≡ true) ⌝ }
+    ensures { λ r. ⌜ now r ≡ headView (now (img .entry)) h .path ⌝ }
+{
+    let name = name_of(img, h);
+    let at = name.at;
+    let end = at + name.len;
+    &img[at..end]
+}
+
+// Whether the entry is live and has this path.
+pub fn path_is(img: &[u8], h: Head, path: &[u8]) -> bool
+    requires { ⌜ HeadIn (now img) h ⌝ }
+    ensures { λ r. ⌜ r ≡ liveAt (now (path .entry)) (headView (now (img .entry)) h) ⌝ }
+{
+    if !is_live(h.kind) {
+        return false;
+    }
+    same_bytes(path_of(img, h), path)
+}
+
+// Whether the entry is the live directory of this path.
+pub fn directory_is(img: &[u8], h: Head, path: &[u8]) -> bool
+    requires { ⌜ HeadIn (now img) h ⌝ }
+    ensures { λ r. ⌜ r ≡ isDirectoryAt (now (path .entry)) (headView (now (img .entry)) h) ⌝ }
+{
+    if h.kind != 0x11 {
+        return false;
+    }
+    same_bytes(path_of(img, h), path)
+}
+
+// Whether the entry is live and lies below this path.
+fn lies_below(img: &[u8], h: Head, path: &[u8]) -> bool
+    requires { ⌜ HeadIn (now img) h ⌝ }
+    ensures { λ r. ⌜ r ≡ liveBelow (now (path .entry)) (headView (now (img .entry)) h) ⌝ }
+{
+    if !is_live(h.kind) {
+        return false;
+    }
+    is_below(path, path_of(img, h))
+}
+
+// Whether the entry is live and its first slot is not below this one.
+fn starts_from(h: Head, slot: u64) -> bool
+    ensures { λ r. ⌜ r ≡ (liveType (h .kind) && leb slot (h .slot .0)) ⌝ }
+{
+    if !is_live(h.kind) {
+        return false;
+    }
+    slot <= h.slot.0
+}
+
+// ---- searches
+
+// What an entry is looked for by; a path stands beside it.
+enum Sought {
+    Path,
+    Directory,
+    Below,
+    From(u64),
+}
+
+fn passes(img: &[u8], h: Head, what: Sought, path: &[u8]) -> bool
+    requires { ⌜ HeadIn (now img) h ⌝ }
+    ensures { λ r. ⌜ r ≡ passes what (now (path .entry)) (headView (now (img .entry)) h) ⌝ }
+{
+    match what {
+        Sought::Path => path_is(img, h, path),
+        Sought::Directory => directory_is(img, h, path),
+        Sought::Below => lies_below(img, h, path),
+        Sought::From(slot) => starts_from(h, slot),
+    }
+}
+
+// The first entry that passes.
+fn seek(img: &[u8], from: Cursor, what: Sought, path: &[u8]) -> Search
+    requires { ⌜ Walks (now img) from ⌝ }
+    ensures { λ r. ⌜ Searched (now (img .entry)) (first (passes what (now (path .entry))) (entriesFrom (now (img .entry)) from)) r ⌝ }
+{
+    let mut at = from;
+    loop {
+        match next_entry(img, at) {
+            Next::End => return Search::Nothing,
+            Next::Found(h, rest) => {
+                if passes(img, h, what, path) {
+                    return Search::Entry(h);
+                }
+                at = rest;
+            }
+        }
+    }
+}
+
+pub fn is_found(s: Search) -> bool
+    ensures { λ r. ⌜ r ≡ isFound s ⌝ }
+{
+    match s {
+        Search::Nothing => false,
+        Search::Entry(_) => true,
+    }
+}
+
+// The live entry of the path.
+pub fn lookup(img: &[u8], from: Cursor, path: &[u8]) -> Search
+    requires { ⌜ Walks (now img) from ⌝ }
+    ensures { λ r. ⌜ Searched (now (img .entry)) (lookup (now (path .entry)) (entriesFrom (now (img .entry)) from)) r ⌝ }
+{
+    seek(img, from, Sought::Path, path)
+}
+
+// The live entry with the lowest first slot not below this one.
+pub fn next_live(img: &[u8], from: Cursor, slot: u64) -> Search
+    requires { ⌜ Walks (now img) from ⌝ }
+    ensures { λ r. ⌜ Searched (now (img .entry)) (nextLive slot (entriesFrom (now (img .entry)) from)) r ⌝ }
+{
+    seek(img, from, Sought::From(slot), b"")
+}
+
+// Whether a live directory has this path.
+pub fn directory_live(img: &[u8], from: Cursor, path: &[u8]) -> bool
+    requires { ⌜ Walks (now img) from ⌝ }
+    ensures { λ r. ⌜ r ≡ directoryLive (entriesFrom (now (img .entry)) from) (now (path .entry)) ⌝ }
+{
+    is_found(seek(img, from, Sought::Directory, path))
+}
+
+// Whether a live entry lies below this path.
+pub fn any_below(img: &[u8], from: Cursor, path: &[u8]) -> bool
+    requires { ⌜ Walks (now img) from ⌝ }
+    ensures { λ r. ⌜ r ≡ anyBelow (now (path .entry)) (entriesFrom (now (img .entry)) from) ⌝ }
+{
+    is_found(seek(img, from, Sought::Below, path))
+}

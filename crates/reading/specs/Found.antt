@@ -1,0 +1,121 @@
+-- Read and list of an entry that was found: the last steps of the calls, and where a file's bytes lie.
+use Prim.Native.Nat.{ℕ, _+_, _*_, _≤_, _<_}
+use mathlib.Core.Path.{_≡_, refl, sym, ap, _∙_}
+use mathlib.Core.Bool.{Bool, true, false, _&&_}
+use mathlib.Core.List.{List, []}
+use mathlib.Core.Option.{some}
+use native.Mathlib.Omega.{arith}
+use lib.ListN.{length}
+use lib.Dec.{eqb, leb}
+use borrow.Author.Tests.{le-leb, lt-leb, eq-eqb, ne-eqb}
+use Rattle.rules.specs.Fields.{splice}
+use Rattle.rules.specs.SuperBlock.{Geometry, blockLength, dataEnd}
+use Rattle.rules.specs.Names.{pathGood}
+use Rattle.rules.specs.Lists.Laws.{and-true, or-false}
+use Rattle.rules.specs.SuperBlock.Laws.{areas-fit}
+use Rattle.rules.specs.Regions.{regionGood}
+use Rattle.rules.specs.Paths.{lookup, liveAt, isLive, nextLive}
+use Rattle.rules.specs.Paths.Laws.{live-run}
+use Rattle.rules.specs.Index.{Entry, typeFile, fileType, directoryType, runType, liveType}
+use Rattle.rules.specs.Refusals.{need, accepted, Volume, entries, judge}
+use Rattle.rules.specs.Refusals.Laws.{need-true, need-false, found-some, judge-opens, Opens}
+use Rattle.rules.specs.Outcome.{Outcome, done, conclude, noneListed, numbersOf, ListedNumbers}
+use Rattle.rules.specs.Outcome.Laws.{denied, conclude-refused, conclude-accepted, volume-judged}
+use Rattle.rules.specs.Reading.{fileBytes, listed, readOf, listOf}
+use Rattle.list_laws.proofs.Every.{all-first, first-says, First}
+use Rattle.entry_laws.proofs.Regions.{sound-says, file-region, FileRegion, region-bytes}
+use Rattle.judging.specs.View.{Opened, volumeOf}
+use Rattle.reading.specs.declared.Listed.{Listed}
+use Rattle.reading.specs.View.{listedAnswer, listedView}
+use native.Mathlib.Nat.{mul-le-mul-right}
+use Rattle.geometry.specs.View.{geometryView}
+use Rattle.geometry.specs.declared.Geometry.{Geometry as Held}
+use Rattle.index.specs.declared.Head.{Head}
+use Rattle.index.specs.View.{headView}
+
+file-kind : (t : ℕ) → t ≡ typeFile → fileType t ≡ true
+unfolding fileType
+file-kind t e = rw e
+
+-- ---- read, from the entry on
+unfoldable pub readEntry : List ℕ → Geometry → Entry → List ℕ → Outcome ℕ
+readEntry s g e out =
+    conclude 0 s out
+    (need (eqb (e .kind) typeFile) 17
+    (need (leb (e .length) (length out)) 18
+    (accepted (done (e .length) s (splice out 0 (fileBytes s g e))))))
+
+module _ (s : List ℕ) (g : Geometry) (e : Entry) (out : List ℕ) where
+  pub entry-directory : (e .kind ≡ typeFile → ⊥) → readEntry s g e out ≡ denied 0 s out 17
+  unfolding readEntry
+  entry-directory d = conclude-refused 0 s out 17 (need-false 17 _ (ne-eqb (e .kind) typeFile d))
+
+  pub entry-short : e .kind ≡ typeFile → length out < e .length → readEntry s g e out ≡ denied 0 s out 18
+  unfolding readEntry
+  entry-short k h = conclude-refused 0 s out 18 (need-true 17 _ (eq-eqb (e .kind) typeFile k) ∙ need-false 18 _ (lt-leb (e .length) (length out) h))
+
+  pub entry-done : e .kind ≡ typeFile → e .length ≤ length out → readEntry s g e out ≡ done (e .length) s (splice out 0 (fileBytes s g e))
+  unfolding readEntry
+  entry-done k h = conclude-accepted 0 s out _ (need-true 17 _ (eq-eqb (e .kind) typeFile k) ∙ need-true 18 _ (le-leb (e .length) (length out) h))
+
+-- a file's bytes lie in the image
+pub record FileIn (s : List ℕ) (g : Held) (h : Head) : Type 0 where
+  pub within : h .kind ≡ typeFile → h .start .0 * blockLength (geometryView g) + h .length ≤ length s
+
+module _ (s : List ℕ) (g : Held) (opened : Opened s g) (path : List ℕ) where
+  -- a file that was looked up lies in the data area
+  pub file-in : (h : Head) → lookup path (entries (volumeOf s (geometryView g))) ≡ some (headView s h) → FileIn s g h
+  unfolding lookup headView
+  file-in h f = record { within = λ k. within k }
+    where
+      o : Opens s (volumeOf s (geometryView g))
+      o = judge-opens s (volumeOf s (geometryView g)) opened
+
+      es : List Entry
+      es = entries (volumeOf s (geometryView g))
+
+      good : regionGood (geometryView g) (headView s h) ≡ true
+      good = all-first (λ e. regionGood (geometryView g) e ≡ true) (liveAt path) es (headView s h) (sound-says (geometryView g) es (o .regions-sound) .each) (first-says (liveAt path) es (headView s h) f)
+
+      within : h .kind ≡ typeFile → h .start .0 * blockLength (geometryView g) + h .length ≤ length s
+      within k =
+          let b : ℕ = blockLength (geometryView g) in
+          let r : FileRegion (geometryView g) (headView s h) = file-region (geometryView g) (headView s h) (file-kind (h .kind) k) good in
+          let u : headView s h .end * b ≤ dataEnd (geometryView g) * b = mul-le-mul-right b (r .upper) in
+          omega (arith, r .fits, region-bytes (headView s h) b (r .order), u, areas-fit (length s) (geometryView g) (o .geometry-good))
+
+  pub read-found : (e : Entry) (out : List ℕ) → pathGood path ≡ true → lookup path (entries (volumeOf s (geometryView g))) ≡ some e
+      → readOf s path out ≡ readEntry s (geometryView g) e out
+  unfolding readOf readEntry
+  read-found e out p f =
+      volume-judged 0 s out _ (volumeOf s (geometryView g)) opened ∙ ap (conclude 0 s out) (need-true 10 _ p ∙ found-some 11 _ f)
+
+-- ---- list, from the entry on
+unfoldable pub listEntry : List ℕ → Entry → List ℕ → Outcome ListedNumbers
+listEntry s e out = conclude noneListed s out (listed s out (some e))
+
+module _ (s : List ℕ) (e : Entry) (out : List ℕ) where
+  pub path-short : length out < length (e .path) → listEntry s e out ≡ denied noneListed s out 18
+  unfolding listEntry listed
+  path-short h = conclude-refused noneListed s out 18 (need-false 18 _ (lt-leb (length (e .path)) (length out) h))
+
+  pub path-done : length (e .path) ≤ length out
+      → listEntry s e out ≡ done (record { found = numbersOf e; pathLength = length (e .path) }) s (splice out 0 (e .path))
+  unfolding listEntry listed
+  path-done h = conclude-accepted noneListed s out _ (need-true 18 _ (le-leb (length (e .path)) (length out) h))
+
+pub list-found : (s : List ℕ) (v : Volume) → judge s ≡ accepted v → (slot : ℕ) (e : Entry) (out : List ℕ) → nextLive slot (entries v) ≡ some e → listOf s slot out ≡ listEntry s e out
+unfolding listOf listEntry
+list-found s v opens slot e out f = volume-judged noneListed s out _ v opens ∙ ap (λ x. conclude noneListed s out (listed s out x)) f
+
+-- an answer with its refusal number is an outcome
+pub listed-outcome : (s out : List ℕ) (r : Listed) (a : ListedNumbers) → r .refusal ≡ 0 → listedAnswer r ≡ a → listedView s out r ≡ done a s out
+unfolding done
+listed-outcome s out r a z e = rw (z, e)
+
+-- what is live has a run
+pub next-run : (slot : ℕ) (es : List Entry) (e : Entry) → nextLive slot es ≡ some e → runType (e .kind) ≡ true
+unfolding nextLive isLive
+next-run slot es e f =
+    let p = first-says (λ x. isLive x && leb slot (x .slot)) es e f .passes in
+    live-run (e .kind) (and-true (liveType (e .kind)) (leb slot (e .slot)) p .0)

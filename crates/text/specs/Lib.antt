@@ -1,0 +1,2 @@
+-- What the contracts say beside the rules.
+pub mod Wrote
