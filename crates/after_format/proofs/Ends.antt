@@ -16,15 +16,9 @@ use Rattle.rules.specs.SuperBlock.{Geometry}
 use Rattle.rules.specs.Names.{textGood, volumeNameGood}
 use Rattle.rules.specs.Names.Laws.{volume-name, volume-text, text-up-to-zero}
 use Rattle.rules.specs.Index.{typeMarker, typeIdentifier, slotBytes, slotAt, identifierAt, volumeField, volumeName, identifierGood, markerGood, indexSound, markerBytes, identifierBytes}
-use Rattle.rules.specs.Refusals.Laws.{length-marker}
+use Rattle.rules.specs.Refusals.Laws.{length-marker, identifier-parts}
 
 -- ---- a field that holds a text and zeros behind it
-padded-behind : (xs ys : List ℕ) (n : ℕ) → padded (xs ++ ys) (length xs + n) ≡ xs ++ padded ys n
-unfolding padded
-padded-behind xs ys n =
-    let e : length xs + n - length (xs ++ ys) ≡ n - length ys = omega (arith, length-append xs ys) in
-    rw e (append-assoc xs ys (replicate (n - length ys) 0))
-
 padded-zero : (xs : List ℕ) (n : ℕ) → length xs < n → padded xs n ≡ xs ++ 0 ∷ replicate (n - length xs - 1) 0
 unfolding padded
 padded-zero xs n h =
@@ -47,12 +41,6 @@ length-before : (z : ℤ) → length (before-name z) ≡ 12
 unfolding before-name stampBytes
 length-before z = simp length-leBytes
 
-identifier-parts : (z : ℤ) (name : List ℕ) → identifierBytes z name ≡ before-name z ++ padded name 52
-unfolding identifierBytes before-name
-identifier-parts z name =
-    ap (λ (xs : List ℕ). padded xs slotBytes) (sym (append-assoc (typeIdentifier ∷ replicate 3 0) (stampBytes z) name))
-    ∙ (rw length-before at (padded-behind (before-name z) name 52))
-
 -- ---- an image whose last 128 bytes are a marker and an identifier
 module _ (t : List ℕ) (z : ℤ) (name : List ℕ) (room : 128 ≤ length t) (ends : part t (length t - 128) 128 ≡ markerBytes ++ identifierBytes z name) where
   read-end : (w o : ℕ) → o + w ≤ 128 → le w t (length t - 128 + o) ≡ le w (markerBytes ++ identifierBytes z name) o
@@ -67,7 +55,6 @@ module _ (t : List ℕ) (z : ℤ) (name : List ℕ) (room : 128 ≤ length t) (e
       ∙ le-1 (markerBytes ++ identifierBytes z name) 0
 
   ends-identifier : byteAt t (length t - 64) ≡ typeIdentifier
-  unfolding before-name
   ends-identifier =
       ap (byteAt t) (omega arith)
       ∙ byte-le t (length t - 128 + 64)
@@ -77,7 +64,7 @@ module _ (t : List ℕ) (z : ℤ) (name : List ℕ) (room : 128 ≤ length t) (e
       ∙ rw (identifier-parts z name)
 
   ends-field : length name ≤ 51 → volumeField t ≡ padded name 52
-  unfolding volumeField identifierAt
+  unfolding volumeField identifierAt before-name
   ends-field h =
       let l : length (markerBytes ++ before-name z) ≡ 76 = omega (arith, length-append markerBytes (before-name z), length-marker, length-before z) in
       ap (λ (at : ℕ). part t at 52) (omega arith)

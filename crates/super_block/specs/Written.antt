@@ -18,7 +18,7 @@ unfolding leBytes
 byte-alone b h = rw (mod-eq-of-lt h)
 
 -- n bytes, and what is written behind them
-join : (s : List ℕ) (at : ℕ) (xs : List ℕ) (n : ℕ) (ys : List ℕ) → length xs ≡ n → at + (n + length ys) ≤ length s
+pub join : (s : List ℕ) (at : ℕ) (xs : List ℕ) (n : ℕ) (ys : List ℕ) → length xs ≡ n → at + (n + length ys) ≤ length s
     → splice (splice s at xs) (at + n) ys ≡ splice s at (xs ++ ys)
 join s at xs n ys e h = rw (← e) (splice-splice s at xs ys (rw e h))
 
@@ -26,7 +26,7 @@ pub stamp-bits : (b : ℕ) → b < 2 ^ 64 → leBytes 8 b ≡ stampBytes (signed
 unfolding stampBytes
 stamp-bits b h = rw (bits-signed b h)
 
-length-stamp : (z : ℤ) → length (stampBytes z) ≡ 8
+pub length-stamp : (z : ℤ) → length (stampBytes z) ≡ 8
 unfolding stampBytes
 length-stamp z = length-leBytes 8 (bitsOf z)
 

@@ -60,7 +60,8 @@ pub fn read_geometry(img: &[u8]) -> Geometry
     }
 }
 
-fn length_good(n: u64) -> bool
+// Whether an image may have n bytes.
+pub fn length_good(n: u64) -> bool
     ensures { λ r. ⌜ r ≡ lengthGood n ⌝ }
 {
     if n < 512 {

@@ -2,21 +2,21 @@
 use Prim.Native.Nat.{ℕ, _+_, _-_, _≤_}
 use mathlib.Core.Path.{_≡_, refl, sym, ap, _∙_}
 use mathlib.Core.Bool.{Bool, true, false}
-use mathlib.Core.List.{List, [], _∷_, _++_}
+use mathlib.Core.List.{List, [], _∷_, _++_, append-assoc}
 use mathlib.Core.Option.{Option, none, some}
 use native.Mathlib.Omega.{arith}
-use lib.ListN.{length, length-append}
+use lib.ListN.{length, replicate, length-append}
 use lib.Dec.{leb}
 use lib.IntN.{ℤ}
 use borrow.Author.Tests.{le-leb, leb-true}
-use Rattle.rules.specs.Lists.{part, eqList}
-use Rattle.rules.specs.Lists.Laws.{and-true, eqList-refl, part-part, length-padded}
+use Rattle.rules.specs.Lists.{part, eqList, padded}
+use Rattle.rules.specs.Lists.Laws.{and-true, eqList-refl, part-part, length-padded, padded-behind}
 use Rattle.rules.specs.Fields.{splice, stampBytes}
 use Rattle.rules.specs.Fields.Laws.{length-leBytes, length-splice, part-splice-in}
 use Rattle.rules.specs.SuperBlock.{Geometry, geometryOf, geometryGood, lengthGood, blockBytes, blockLength, superBlockAt, magicAt, sealedLength, magic, version10, superBlockBytes, putSizes}
 use Rattle.rules.specs.SuperBlock.Laws.{GoodGeometry, geometry-good, good-geometry, asStored, length-least, good-fit, good-stored, length-super, super-frame, SameBlocks, sealed-same, sealed-part, geometry-same, sealed-checks, written-geometry, written-version, written-magic, written-sealed, length-putSizes, putSizes-after, putSizes-geometry}
 use Rattle.rules.specs.Names.{volumeTextGood, volumeNameGood}
-use Rattle.rules.specs.Index.{Item, itemsOf, entriesOf, indexSound, typeMarker, slotBytes, markerBytes, identifierBytes}
+use Rattle.rules.specs.Index.{Item, itemsOf, entriesOf, indexSound, typeMarker, typeIdentifier, slotBytes, markerBytes, identifierBytes}
 use Rattle.rules.specs.Regions.{regionsSound}
 use Rattle.rules.specs.Paths.{pathsSound}
 use Rattle.rules.specs.Refusals.{Verdict, refused, accepted, need, needFound, andThen, Volume, entries, magicGood, versionGood, checksumGood, judgeGeometry, judgeIndex, judge}
@@ -315,6 +315,15 @@ length-marker = length-padded (typeMarker ∷ []) slotBytes (omega arith)
 pub length-identifier : (z : ℤ) (name : List ℕ) → length name ≤ 52 → length (identifierBytes z name) ≡ 64
 unfolding identifierBytes stampBytes
 length-identifier z name h = length-padded _ slotBytes (simp (length-append, length-leBytes) (omega arith))
+
+-- 12 bytes before the name
+pub identifier-parts : (z : ℤ) (name : List ℕ) → identifierBytes z name ≡ ((typeIdentifier ∷ replicate 3 0) ++ stampBytes z) ++ padded name 52
+unfolding identifierBytes stampBytes
+identifier-parts z name =
+    let before : List ℕ = (typeIdentifier ∷ replicate 3 0) ++ stampBytes z in
+    let e : length before ≡ 12 = simp length-leBytes in
+    ap (λ (xs : List ℕ). padded xs slotBytes) (sym (append-assoc (typeIdentifier ∷ replicate 3 0) (stampBytes z) name))
+    ∙ (rw e at (padded-behind before name 52))
 
 pub volume-name : (name : List ℕ) → volumeNameGood name ≡ true → length name ≤ 51
 unfolding volumeNameGood
