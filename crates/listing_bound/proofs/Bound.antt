@@ -98,16 +98,16 @@ module _ (s : List ℕ) (v : Volume) (bytes : Bytes s) (o : Opens s v) (small : 
       simp length-append
       (omega (arith, decimal-length 4 (length (only isLive (entries v))) (omega arith) (omega (arith, live-few)), decimal-length 23 (heldBlocks (entries v)) (omega arith) (omega (arith, held-few))))
 
-  volume-fits : length (volumeText s (accepted v)) ≤ 131_072
+  volume-fits : length (volumeText s (accepted v)) ≤ 131_000
   unfolding volumeText
   volume-fits = simp length-append (omega (arith, name-fits s, lines-fit, count-fits))
 
 -- one of more than 65,536 bytes is refused
-pub listing-fits : (s : List ℕ) → Bytes s → length (listingOf s) ≤ 131_072
+pub listing-fits : (s : List ℕ) → Bytes s → length (listingOf s) ≤ 131_000
 unfolding listingOf
 listing-fits s bytes = by (need (leb (length s) 65_536) 1 (judge s)) refl (need-low (leb (length s) 65_536) 1 (judge s) (omega arith) (judge-low s))
   where
-    by : (r : Verdict Volume) → need (leb (length s) 65_536) 1 (judge s) ≡ r → Low r → length (volumeText s r) ≤ 131_072
+    by : (r : Verdict Volume) → need (leb (length s) 65_536) 1 (judge s) ≡ r → Low r → length (volumeText s r) ≤ 131_000
     by (refused n) e l = omega (arith, refused-fits s n l)
     by (accepted v) e l =
         let h = need-accepted (leb (length s) 65_536) 1 (judge s) e in
