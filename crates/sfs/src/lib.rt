@@ -39,7 +39,13 @@ pub extern "C" fn sfs_read(image: &[u8], path: &[u8], out: &mut [u8]) -> Content
 }
 
 #[no_mangle]
-pub extern "C" fn sfs_format(image: &mut [u8], block: u64, reserved: u64, name: &[u8], stamp: i64) -> u32
+pub extern "C" fn sfs_format(
+    image: &mut [u8],
+    block: u64,
+    reserved: u64,
+    name: &[u8],
+    stamp: i64,
+) -> u32
     ensures { λ r. ⌜ writtenAs r (now (image .exit)) ≡ formatOf (now (image .entry)) block reserved (now (name .entry)) stamp ⌝ }
 {
     formatting::format(image, block, reserved, name, stamps::to_bits(stamp))
