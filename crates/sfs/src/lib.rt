@@ -6,7 +6,7 @@ use reading::Listed;
 use reading::Volume;
 ghost use mathlib.Core.Path.{_≡_};
 ghost use Rattle.rules.specs.Reading.{openOf, findOf, readOf, listOf};
-ghost use Rattle.rules.specs.Writing.{formatOf};
+ghost use Rattle.rules.specs.Writing.{formatOf, createOf, newFile, newDirectory};
 ghost use Rattle.rules.specs.Writing.Laws.{writtenAs};
 ghost use Rattle.reading.specs.View.{volumeView, entryView, contentView, listedView};
 
@@ -49,4 +49,18 @@ pub extern "C" fn sfs_format(
     ensures { λ r. ⌜ writtenAs r (now (image .exit)) ≡ formatOf (now (image .entry)) block reserved (now (name .entry)) stamp ⌝ }
 {
     formatting::format(image, block, reserved, name, stamps::to_bits(stamp))
+}
+
+#[no_mangle]
+pub extern "C" fn sfs_create_file(image: &mut [u8], path: &[u8], bytes: &[u8], stamp: i64) -> u32
+    ensures { λ r. ⌜ writtenAs r (now (image .exit)) ≡ createOf (now (image .entry)) (newFile (now (bytes .entry))) (now (path .entry)) stamp ⌝ }
+{
+    creating::create(image, true, path, bytes, stamps::to_bits(stamp))
+}
+
+#[no_mangle]
+pub extern "C" fn sfs_create_directory(image: &mut [u8], path: &[u8], stamp: i64) -> u32
+    ensures { λ r. ⌜ writtenAs r (now (image .exit)) ≡ createOf (now (image .entry)) newDirectory (now (path .entry)) stamp ⌝ }
+{
+    creating::create(image, false, path, b"", stamps::to_bits(stamp))
 }

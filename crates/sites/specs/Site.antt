@@ -1,14 +1,20 @@
 -- A site in the rules' words: the entry made there, the image that results, and that all of it lies in the image.
 use Prim.Native.Nat.{ℕ, _+_, _-_, _*_, _≤_}
 use mathlib.Core.Path.{_≡_}
+use mathlib.Core.Bool.{Bool, true, false}
 use mathlib.Core.List.{List}
 use lib.ListN.{length}
 use lib.IntN.{ℤ}
 use Rattle.rules.specs.SuperBlock.{blockLength}
 use Rattle.rules.specs.Index.{Entry, continuing}
-use Rattle.rules.specs.Writing.{New, kindOf, bytesOf, newEntry, created}
+use Rattle.rules.specs.Writing.{New, newFile, newDirectory, kindOf, bytesOf, newEntry, created}
 use Rattle.geometry.specs.View.{geometryView}
 use Rattle.sites.specs.declared.Site.{Site}
+
+-- what is created, as a program is told it: a file with these bytes, or a directory
+unfoldable pub newOf : Bool → List ℕ → New
+newOf true bytes = newFile bytes
+newOf false bytes = newDirectory
 
 abbrev pub siteEntry : New → List ℕ → ℤ → Site → Entry
 siteEntry new path stamp p = newEntry new path stamp (p .slot .0) (p .start .0) (p .end .0 - p .start .0)

@@ -13,7 +13,7 @@ use Rattle.rules.specs.Fields.Signed.{bits-signed}
 use Rattle.rules.specs.SuperBlock.{Geometry, superBlockAt, dataAt, indexAt, magicAt, versionAt, totalAt, reservedAt, blockFieldAt, magic, sizesBytes, summedBytes, superBlockBytes, putSizes}
 use Rattle.rules.specs.SuperBlock.Laws.{length-sizes, length-summed, length-putSizes}
 
-byte-alone : (b : ℕ) → b < 256 → leBytes 1 b ≡ b ∷ []
+pub byte-alone : (b : ℕ) → b < 256 → leBytes 1 b ≡ b ∷ []
 unfolding leBytes
 byte-alone b h = rw (mod-eq-of-lt h)
 

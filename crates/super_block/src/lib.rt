@@ -196,7 +196,7 @@ pub fn index_sound(img: &[u8], g: Geometry) -> bool
 // ---- writing
 
 // A stamp by its bits. That they are below 2 ^ 64, as the rules' stamp has them, is said once, here.
-fn put_stamp(img: &mut [u8], at: usize, bits: u64)
+pub fn put_stamp(img: &mut [u8], at: usize, bits: u64)
     requires { ⌜ at + 8 ≤ length (now img) ⌝ }
     ensures { λ _. ⌜ now (img .exit) ≡ splice (now (img .entry)) at (stampBytes (signedOf bits)) ⌝ }
 {

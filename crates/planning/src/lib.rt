@@ -1,0 +1,210 @@
+// What a create judges before it writes, and where it puts what it makes.
+
+use free_runs::Free;
+use geometry::Geometry;
+use index::Cursor;
+use judging::Judged;
+use sites::Site;
+use units::Block;
+use units::Slot;
+ghost use mathlib.Core.Path.{_≡_};
+ghost use mathlib.Core.List.{List};
+ghost use Prim.Native.Nat.{ℕ, _*_, _≤_};
+ghost use lib.ListN.{length};
+ghost use Rattle.rules.specs.Fields.{signedOf};
+ghost use Rattle.rules.specs.SuperBlock.{blockLength, growIndex};
+ghost use Rattle.rules.specs.Regions.{blocksNeeded};
+ghost use Rattle.rules.specs.Writing.{kindOf, bytesOf, lowestUnused, grownPlace, placeRun, placeFile};
+ghost use Rattle.geometry.specs.View.{geometryView};
+ghost use Rattle.index.specs.View.{itemsFrom};
+ghost use Rattle.index.specs.Steps.{Walks, entriesFrom};
+ghost use Rattle.free_runs.specs.View.{freeView};
+ghost use Rattle.judging.specs.View.{Opened, volumeOf};
+ghost use Rattle.planning.specs.Unused.{unusedView};
+ghost use Rattle.planning.specs.Places.{placeView, Begins, Growable};
+ghost use Rattle.planning.specs.Planned.{Planned, Clear};
+ghost use Rattle.sites.specs.Site.{newOf};
+
+// ---- a place for the run
+
+pub enum Unused {
+    Nothing,
+    At(Slot),
+}
+
+// The lowest n unused slots in a row; all from `first` up to the slot are unused.
+pub fn lowest_unused(img: &[u8], from: Cursor, n: u64) -> Unused
+    requires { ⌜ Walks (now img) from × (1 ≤ n) ⌝ }
+    ensures { λ r. ⌜ unusedView r ≡ lowestUnused n (itemsFrom (now (img .entry)) from) ⌝ }
+{
+    let mut at = from.at.0;
+    let mut slot = from.slot.0;
+    let mut left = from.left;
+    let mut first = slot;
+    while 0 < left {
+        if index::is_entry(img[at]) {
+            let slots = index::head_at(img, at, slot).slots;
+            at += (64 * slots) as usize;
+            slot += slots;
+            left -= slots;
+            first = slot;
+        } else {
+            at += 64;
+            slot += 1;
+            left -= 1;
+            if slot - first == n {
+                return Unused::At(Slot(first));
+            }
+        }
+    }
+    Unused::Nothing
+}
+
+// Where a run goes, and the geometry after any growth of the index.
+pub enum RunPlace {
+    Nothing,
+    At(Slot, Geometry),
+}
+
+// Slot 1 of an index that is n slots larger, if it may grow so in an image of `len` bytes.
+fn grown_place(len: u64, g: Geometry, n: u64) -> RunPlace
+    requires { ⌜ Growable g × (n ≤ 5) ⌝ }
+    ensures { λ r. ⌜ placeView r ≡ grownPlace len (growIndex (geometryView g) (64 * n)) ⌝ }
+{
+    let grown = g.grow_index(64 * n);
+    if 262_144 < grown.index {
+        return RunPlace::Nothing;
+    }
+    if len < grown.index {
+        return RunPlace::Nothing;
+    }
+    let ceiling = grown.ceiling(len);
+    if ceiling.0 < grown.reserved as u64 + grown.data {
+        return RunPlace::Nothing;
+    }
+    RunPlace::At(Slot(1), grown)
+}
+
+// The lowest n unused slots, else the index grows by them.
+fn place_run(img: &[u8], g: Geometry, from: Cursor, n: u64) -> RunPlace
+    requires { ⌜ Opened (now img) g × Begins (now img) g from × (1 ≤ n) × (n ≤ 5) ⌝ }
+    ensures { λ r. ⌜ placeView r ≡ placeRun (length (now (img .entry))) (volumeOf (now (img .entry)) (geometryView g)) n ⌝ }
+{
+    match lowest_unused(img, from, n) {
+        Unused::At(slot) => RunPlace::At(slot, g),
+        Unused::Nothing => grown_place(img.len() as u64, g, n),
+    }
+}
+
+// ---- a place for the file
+
+// The lowest k free blocks below the ceiling block of g; no blocks stand at 0.
+fn place_file(img: &[u8], g: Geometry, from: Cursor, k: u64) -> Free
+    requires { ⌜ Walks (now img) from × (g .field ≤ 5) × (g .index ≤ length (now img)) ⌝ }
+    ensures { λ r. ⌜ freeView r ≡ placeFile (length (now (img .entry))) (geometryView g) (entriesFrom (now (img .entry)) from) k ⌝ }
+{
+    if k == 0 {
+        return Free::At(Block(0));
+    }
+    free_runs::lowest_free(
+        img,
+        from,
+        k,
+        Block(g.reserved as u64),
+        g.ceiling(img.len() as u64),
+    )
+}
+
+// ---- the plan
+
+// The refusal of a create, or where it puts what it makes.
+pub enum Plan {
+    Refused(u8),
+    At(Site),
+}
+
+fn kind_of(file: bool) -> u8
+    ensures { λ r. ⌜ ((bytes : List ℕ) → r ≡ kindOf (newOf file bytes)) ⌝ }
+{
+    if file { 0x12 } else { 0x11 }
+}
+
+// The blocks that the bytes need; a directory needs none.
+fn blocks_for(g: Geometry, file: bool, bytes: &[u8]) -> u64
+    requires { ⌜ g .field ≤ 5 ⌝ }
+    ensures { λ r. ⌜ r ≡ blocksNeeded (blockLength (geometryView g)) (length (bytesOf (newOf file (now (bytes .entry))))) ⌝ }
+{
+    let len = g.block_length();
+    if file {
+        return free_runs::blocks_needed(len, bytes.len() as u64);
+    }
+    free_runs::blocks_needed(len, 0)
+}
+
+// 15 and 16: the places for the run and for the blocks.
+fn plan_places(
+    img: &[u8],
+    g: Geometry,
+    from: Cursor,
+    file: bool,
+    path: &[u8],
+    bytes: &[u8],
+    stamp: u64,
+) -> Plan
+    requires { ⌜ Opened (now img) g × Begins (now img) g from × Clear (now img) g (now path) ⌝ }
+    ensures { λ r. ⌜ Planned (now (img .entry)) (newOf file (now (bytes .entry))) (now (path .entry)) (signedOf stamp) r ⌝ }
+{
+    let slots = 1 + names::continuing(kind_of(file), path.len() as u64);
+    match place_run(img, g, from, slots) {
+        RunPlace::Nothing => Plan::Refused(15),
+        RunPlace::At(slot, grown) => {
+            let blocks = blocks_for(g, file, bytes);
+            match place_file(img, grown, from, blocks) {
+                Free::Nothing => Plan::Refused(16),
+                Free::At(start) => {
+                    let end = start.after(blocks);
+                    let new = grown.extend_data(end).restamp(g, stamp);
+                    Plan::At(Site {
+                        old: g,
+                        new,
+                        slot,
+                        slots,
+                        start,
+                        end,
+                    })
+                }
+            }
+        }
+    }
+}
+
+// 9 to 13: what may be written, and by which path.
+fn plan_opened(img: &[u8], g: Geometry, file: bool, path: &[u8], bytes: &[u8], stamp: u64) -> Plan
+    requires { ⌜ Opened (now img) g ⌝ }
+    ensures { λ r. ⌜ Planned (now (img .entry)) (newOf file (now (bytes .entry))) (now (path .entry)) (signedOf stamp) r ⌝ }
+{
+    if 0x10 < g.version {
+        return Plan::Refused(9);
+    }
+    if !names::new_path_good(path) {
+        return Plan::Refused(10);
+    }
+    let from = super_block::first_slot(img, g);
+    if paths::is_found(paths::lookup(img, from, path)) {
+        return Plan::Refused(12);
+    }
+    if !path_rules::nearest_live(img, from, path) {
+        return Plan::Refused(13);
+    }
+    plan_places(img, g, from, file, path, bytes, stamp)
+}
+
+// A file of these bytes, or a directory: all that a create tests, on any image and any arguments.
+pub fn plan_create(img: &[u8], file: bool, path: &[u8], bytes: &[u8], stamp: u64) -> Plan
+    ensures { λ r. ⌜ Planned (now (img .entry)) (newOf file (now (bytes .entry))) (now (path .entry)) (signedOf stamp) r ⌝ }
+{
+    match judging::judge(img) {
+        Judged::Refused(n) => Plan::Refused(n),
+        Judged::Good(g) => plan_opened(img, g, file, path, bytes, stamp),
+    }
+}
