@@ -9,7 +9,7 @@ use lib.Seq.{drop-drop}
 use Rattle.rules.specs.Lists.Laws.{clash}
 use Rattle.rules.specs.Fields.{byteAt}
 use Rattle.rules.specs.Index.{Entry, Item, entry, unused, itemAt, entryAt, unusableAt, entriesOf, runSlots, runType, nameGood, nameField, slotBytes, typeUnusable}
-use Rattle.rules.specs.Index.Walk.{walkAll, slotsOf, walk-none}
+use Rattle.rules.specs.Index.Walk.{walkAll, slotsOf, walk-none, pick-both}
 use Rattle.rules.specs.Index.Items.{faultless, headOf, head-run, head-unusable, entryType, Stands, sound-entry, sound-unused, rest-sound, entries-entry, entries-unused, byte-drop, type-drop}
 use Rattle.index.specs.declared.Cursor.{Cursor}
 use Rattle.index.specs.declared.Head.{Head}
@@ -41,6 +41,9 @@ pub record Step (s : List ℕ) (c : Cursor) (h : Head) (d : Cursor) : Type 0 whe
   pub walks : Walks s d
   pub less : d .left < c .left
   pub head : HeadIn s h
+  pub place : h .at .0 + 64 * c .slot .0 ≡ c .at .0 + 64 * h .slot .0  -- so far apart in bytes as in slots
+  pub after : d .at .0 ≡ h .at .0 + 64 * h .slots
+  pub number : d .slot .0 ≡ h .slot .0 + h .slots
 
 -- what the answer of a step says
 unfoldable pub Told : List ℕ → Cursor → Next → Type 0
@@ -48,6 +51,10 @@ Told s c End = entriesFrom s c ≡ []
 Told s c (Found h d) = Step s c h d
 
 -- ---- the head of a run is as it stands
+head-slot : (k : ℕ) (a : List ℕ) → headOf k a .slot ≡ k
+unfolding headOf entryAt unusableAt
+head-slot k a = pick-both (λ (e : Entry). e .slot ≡ k) (runType (byteAt a 0)) (entryAt k a) (unusableAt k a) refl refl
+
 module _ (s : List ℕ) (at k : ℕ) (h : Head) (view : headView s h ≡ headOf k (drop at s)) where
   kind-is : h .kind ≡ headOf k (drop at s) .kind
   unfolding headView
@@ -56,6 +63,10 @@ module _ (s : List ℕ) (at k : ℕ) (h : Head) (view : headView s h ≡ headOf 
   pub slots-is : h .slots ≡ headOf k (drop at s) .slots
   unfolding headView
   slots-is = ap (λ (e : Entry). e .slots) view
+
+  pub slot-is : h .slot .0 ≡ k
+  unfolding headView
+  slot-is = ap (λ (e : Entry). e .slot) view ∙ head-slot k (drop at s)
 
   starts-run : runType (h .kind) ≡ true → runType (byteAt (drop at s) 0) ≡ true
   unfolding unusableAt
@@ -110,6 +121,7 @@ module _ (s : List ℕ) (c : Cursor) (walks : Walks s c) (more : 0 < c .left) wh
       let r : itemsFrom s d ≡ walkAll (c .left - headOf k a .slots) (k + headOf k a .slots) (drop (slotBytes * headOf k a .slots) a) =
       rw (at, slot, left, n) (ap (walkAll (c .left - headOf k a .slots) (k + headOf k a .slots)) (sym (drop-drop (64 * headOf k a .slots) (c .at .0) s))) in
       let i : Inside s c = walks .inside in
+      let number : h .slot .0 ≡ k = slot-is s (c .at .0) k h view in
       record {
         entries = entries-entry (c .left) k a more (headOf k a) (st .item) ∙ rw (view, r);
         walks = record {
@@ -118,6 +130,9 @@ module _ (s : List ℕ) (c : Cursor) (walks : Walks s c) (more : 0 < c .left) wh
         };
         less = omega (arith, left, n, st .low);
         head = head-in s (c .at .0) k h view (c .left) st (i .fits) (i .short) place few;
+        place = omega (arith, place, number);
+        after = omega (arith, at, place);
+        number = omega (arith, slot, number);
       }
 
 -- ---- a step over an unused slot
@@ -151,7 +166,16 @@ unfolding entriesOf
 no-more s at slot left z = rw (z, walk-none slot (drop at s))
 
 -- the answer from further on is the answer from the start
-pub told-before : (s : List ℕ) (b c : Cursor) (r : Next) → entriesFrom s c ≡ entriesFrom s b → c .left ≤ b .left → Told s c r → Told s b r
+pub told-before : (s : List ℕ) (b c : Cursor) (r : Next) → entriesFrom s c ≡ entriesFrom s b → c .left ≤ b .left → c .at .0 + 64 * b .slot .0 ≡ b .at .0 + 64 * c .slot .0
+    → Told s c r → Told s b r
 unfolding Told
-told-before s b c End e l t = sym e ∙ t
-told-before s b c (Found h d) e l st = record { entries = sym e ∙ st .entries; walks = st .walks; less = omega (arith, st .less); head = st .head }
+told-before s b c End e l p t = sym e ∙ t
+told-before s b c (Found h d) e l p st = record {
+  entries = sym e ∙ st .entries;
+  walks = st .walks;
+  less = omega (arith, st .less);
+  head = st .head;
+  place = omega (arith, st .place);
+  after = st .after;
+  number = st .number;
+}

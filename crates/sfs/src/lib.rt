@@ -6,7 +6,7 @@ use reading::Listed;
 use reading::Volume;
 ghost use mathlib.Core.Path.{_≡_};
 ghost use Rattle.rules.specs.Reading.{openOf, findOf, readOf, listOf};
-ghost use Rattle.rules.specs.Writing.{formatOf, createOf, newFile, newDirectory};
+ghost use Rattle.rules.specs.Writing.{formatOf, createOf, deleteOf, reclaimOf, newFile, newDirectory};
 ghost use Rattle.rules.specs.Writing.Laws.{writtenAs};
 ghost use Rattle.reading.specs.View.{volumeView, entryView, contentView, listedView};
 
@@ -63,4 +63,18 @@ pub extern "C" fn sfs_create_directory(image: &mut [u8], path: &[u8], stamp: i64
     ensures { λ r. ⌜ writtenAs r (now (image .exit)) ≡ createOf (now (image .entry)) newDirectory (now (path .entry)) stamp ⌝ }
 {
     creating::create(image, false, path, b"", stamps::to_bits(stamp))
+}
+
+#[no_mangle]
+pub extern "C" fn sfs_delete(image: &mut [u8], path: &[u8], stamp: i64) -> u32
+    ensures { λ r. ⌜ writtenAs r (now (image .exit)) ≡ deleteOf (now (image .entry)) (now (path .entry)) stamp ⌝ }
+{
+    erasing::delete(image, path, stamps::to_bits(stamp))
+}
+
+#[no_mangle]
+pub extern "C" fn sfs_reclaim(image: &mut [u8], stamp: i64) -> u32
+    ensures { λ r. ⌜ writtenAs r (now (image .exit)) ≡ reclaimOf (now (image .entry)) stamp ⌝ }
+{
+    erasing::reclaim(image, stamps::to_bits(stamp))
 }

@@ -10,7 +10,7 @@ ghost use lib.ListN.{length};
 ghost use Rattle.rules.specs.Fields.{splice, signedOf, stampBytes};
 ghost use Rattle.rules.specs.SuperBlock.{lengthGood, geometryOf, magicAt, superBlockAt, summedBytes, superBlockBytes, putSizes};
 ghost use Rattle.rules.specs.Refusals.{magicGood, versionGood, checksumGood, judgeGeometry};
-ghost use Rattle.rules.specs.Index.{volumeName, identifierGood, markerGood, itemsOf, indexSound};
+ghost use Rattle.rules.specs.Index.{volumeName, identifierGood, markerGood, slotAt, itemsOf, indexSound};
 ghost use Rattle.geometry.specs.View.{geometryView};
 ghost use Rattle.index.specs.View.{Inside, itemsFrom};
 ghost use Rattle.super_block.specs.View.{superView, Judged};
@@ -171,7 +171,7 @@ pub fn ends_good(img: &[u8], g: Geometry) -> bool
 // The cursor at slot 1, behind the start marker; the volume identifier is not among the slots left.
 pub fn first_slot(img: &[u8], g: Geometry) -> Cursor
     requires { ⌜ Judged (now img) g ⌝ }
-    ensures { λ r. ⌜ (itemsFrom (now (img .entry)) r ≡ itemsOf (now (img .entry)) (geometryView g)) × Inside (now (img .entry)) r ⌝ }
+    ensures { λ r. ⌜ (itemsFrom (now (img .entry)) r ≡ itemsOf (now (img .entry)) (geometryView g)) × Inside (now (img .entry)) r × (r .at .0 ≡ slotAt (now (img .entry)) (geometryView g) (r .slot .0)) ⌝ }
 {
     let start = units::index_start(img.len() as u64, g.index);
     let slot = Slot(1);

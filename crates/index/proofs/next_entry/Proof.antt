@@ -1,6 +1,6 @@
 use borrow.Author.Needs.{needs}
 use Rattle.index.specs.Steps.{Told, Walks, entriesFrom, cursorAt, skip-entries, skip-walks, no-more, told-before}
-use Prim.Native.Nat.{_≤_}
+use Prim.Native.Nat.{_+_, _*_, _≤_}
 use mathlib.Core.Path.{_≡_, refl, sym, _∙_}
 use native.Mathlib.Omega.{arith}
 use denote.Ref.{now}
@@ -12,12 +12,13 @@ Inv-loop img at₀ slot₀ left₀ at slot left =
     Walks img (cursorAt at slot left)
     × (entriesFrom img (cursorAt at slot left) ≡ entriesFrom img (cursorAt at₀ slot₀ left₀))
     × (left ≤ left₀)
+    × (at + 64 * slot₀ ≡ at₀ + 64 * slot)
 
 abbrev μ-loop : tie.MeasureT-loop
 μ-loop img at₀ slot₀ left₀ at slot left = left
 
 loop-holds : tie.Need-loop-holds Inv-loop μ-loop
-loop-holds c = (c .before .pre, refl, omega arith)
+loop-holds c = (c .before .pre, refl, omega arith, refl)
 
 shared-slice-read-is-entry : tie.Need-shared-slice-read-is-entry Inv-loop μ-loop
 shared-slice-read-is-entry c = omega (arith, c .before .before .loop .inv .0 .inside .fits)
@@ -30,7 +31,7 @@ found-requires c κs = (c .before .before .before .before .loop .inv .0, c .befo
 
 returns : tie.Need-returns Inv-loop μ-loop
 returns c = let l = c .before .before .before .before .before .loop in
-    told-before _ _ _ _ (l .inv .1) (l .inv .2) (c .found .ensures)
+    told-before _ _ _ _ (l .inv .1) (l .inv .2) (l .inv .3) (c .found .ensures)
 
 add-at : tie.Need-add-at Inv-loop μ-loop
 add-at c = omega (arith, c .before .before .before .before .loop .inv .0 .inside .fits, c .before .before .before .before .loop .inv .0 .inside .short)
@@ -49,7 +50,7 @@ loop-again c = let l = c .before .before .before .before .loop in
     let s = now (c .before .before .before .before .before .before .args .img) in
     let t = sym (c .before .is-entry .ensures) ∙ c .if1 .left in
     let m = c .before .before .before .loop-test .taken in
-    (skip-walks s (l .at) (l .slot) (l .left) (l .inv .0) m t, skip-entries s (l .at) (l .slot) (l .left) (l .inv .0) m t ∙ l .inv .1, omega (arith, l .inv .2))
+    (skip-walks s (l .at) (l .slot) (l .left) (l .inv .0) m t, skip-entries s (l .at) (l .slot) (l .left) (l .inv .0) m t ∙ l .inv .1, omega (arith, l .inv .2), omega (arith, l .inv .3))
 
 returns-2 : tie.Need-returns-2 Inv-loop μ-loop
 unfolding Told

@@ -47,7 +47,7 @@ returns-4 c = planned-orphan _ _ (c .before .before .before .before .before .bef
 plan-places-requires : tie.Need-plan-places-requires
 plan-places-requires c κs = let n = sym (c .before .before .before .before .before .before .before .new-path-good .ensures) ∙ not-false _ (c .before .before .before .before .before .before .if2 .left) in
     let d = nearest-is _ _ (c .before .before .before .before .before .first-slot .result) (c .before .before .before .before .before .first-slot .ensures .0) _ ∙ sym (c .before .nearest-live .ensures) ∙ not-false _ (c .if4 .left) in
-    (c .before .before .before .before .before .before .before .before .before .before .before .before .before .pre, c .before .before .before .before .before .first-slot .ensures, clear _ _ (c .before .before .before .before .before .before .before .before .before .before .before .before .before .pre) _ (c .before .before .before .before .before .before .before .before .if1 .left) n (sought (c .before .before .before) ∙ c .before .before .if3 .left) d)
+    (c .before .before .before .before .before .before .before .before .before .before .before .before .before .pre, (c .before .before .before .before .before .first-slot .ensures .0, c .before .before .before .before .before .first-slot .ensures .1), clear _ _ (c .before .before .before .before .before .before .before .before .before .before .before .before .before .pre) _ (c .before .before .before .before .before .before .before .before .if1 .left) n (sought (c .before .before .before) ∙ c .before .before .if3 .left) d)
 
 returns-5 : tie.Need-returns-5
 returns-5 c = search needs

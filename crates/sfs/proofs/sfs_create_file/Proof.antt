@@ -6,24 +6,16 @@ use Rattle.sfs.proofs.Stamps.{stamp-is}
 use borrow.Author.Needs.{needs}
 use Rattle.sfs.proofs.sfs_create_file.Statement.{statement}
 use Rattle.sfs.proofs.sfs_create_file.Tie as tie
-use Rattle.sfs.proofs.sfs_create_file.Reads as reads
-use Rattle.sfs.proofs.sfs_create_file.Lts as lts
-use Rattle.creating.proofs.create.Reads as create-reads
-use Rattle.stamps.proofs.to_bits.Reads as to-bits-reads
 
--- src/lib.rt:58:48
 to-bits-requires : tie.Need-to-bits-requires
 to-bits-requires c κs = search needs
 
--- src/lib.rt:58:5
 create-requires : tie.Need-create-requires
 create-requires c κs = search needs
 
--- src/lib.rt:54:1
 same-length : tie.Need-same-length
 same-length c = search needs
 
--- src/lib.rt:54:1
 returns : tie.Need-returns
 unfolding newOf
 returns c = let a = c .before .before .before .before .before .before .before .before in

@@ -3,6 +3,7 @@ use mathlib.Core.Path.{_≡_, refl}
 use native.Mathlib.Omega.{arith}
 use lib.ListN.{length}
 use denote.Ref.{now}
+use Rattle.rules.specs.Index.{slotAt}
 use Rattle.geometry.specs.View.{geometryView}
 use Rattle.super_block.specs.Ends.{first-items, first-inside}
 use borrow.Author.Needs.{needs}
@@ -22,12 +23,13 @@ sub-t8 : tie.Need-sub-t8
 sub-t8 c = search needs
 
 returns : tie.Need-returns
+unfolding slotAt
 returns c = let x = c .before .before .before .before in
     let s = now (x .args .img) in
     let g = geometryView (x .args .g) in
     let at : c .before .offset .result .0 ≡ length s - g .indexBytes + 64 = omega arith in
     let left : c .slots-in .result - 2 ≡ g .indexBytes / 64 - 2 = omega arith in
-    (first-items s g _ at refl left, first-inside s g _ (x .pre .good) (x .pre .short) at refl left)
+    (first-items s g _ at refl left, first-inside s g _ (x .pre .good) (x .pre .short) at refl left, omega (arith, at))
 
 pub first-slot-spec : {M : Type 1} → statement M
 first-slot-spec =

@@ -1,0 +1,49 @@
+use mathlib.Core.Path.{sym, ap, _∙_}
+use Rattle.rules.specs.Outcome.{done}
+use Rattle.rules.specs.Writing.Laws.{writtenAs}
+use Rattle.erasing.specs.Delete.{planned-refused, planned-at}
+use borrow.Author.Needs.{needs}
+use Rattle.erasing.proofs.delete.Statement.{statement}
+use Rattle.erasing.proofs.delete.Tie as tie
+
+plan-delete-requires : tie.Need-plan-delete-requires
+plan-delete-requires c κs = search needs
+
+enum-known-n : tie.Need-enum-known-n
+enum-known-n c = search needs
+
+cast-result : tie.Need-cast-result
+cast-result c = search needs
+
+enum-known-at : tie.Need-enum-known-at
+enum-known-at c = search needs
+
+mark-requires : tie.Need-mark-requires
+mark-requires c κs = planned-at _ _ _ (c .before .before .before .before .plan-delete .ensures) _ _ (c .before .before .at .given .1) .0
+
+same-length : tie.Need-same-length
+same-length c = search needs
+
+returns : tie.Need-returns
+returns c = sym (planned-refused _ _ _ (c .before .before .before .plan-delete .ensures) _ (c .before .n .given .1) _)
+
+same-length-2 : tie.Need-same-length-2
+same-length-2 c = search needs
+
+returns-2 : tie.Need-returns-2
+unfolding done
+returns-2 c = ap (writtenAs 0) (c .before .before .mark .ensures) ∙ sym (planned-at _ _ _ (c .before .before .before .before .before .before .before .plan-delete .ensures) _ _ (c .before .before .before .before .before .at .given .1) .1 _)
+
+pub delete-spec : {M : Type 1} → statement M
+delete-spec =
+    tie.close
+    (tie.spec
+    plan-delete-requires
+    enum-known-n
+    cast-result
+    enum-known-at
+    mark-requires
+    same-length
+    returns
+    same-length-2
+    returns-2)

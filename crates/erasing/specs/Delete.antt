@@ -1,0 +1,85 @@
+-- What a delete comes to before it writes, and where the entry that it marks stands.
+use Prim.Native.Nat.{ℕ, _+_, _-_, _*_, _≤_, _<_, _^_}
+use mathlib.Core.Path.{_≡_, sym, ap, _∙_}
+use mathlib.Core.Bool.{true, false}
+use mathlib.Core.List.{List, [], _∷_, _++_}
+use mathlib.Core.Option.{some}
+use native.Mathlib.Omega.{arith}
+use lib.ListN.{length, drop}
+use lib.IntN.{ℤ}
+use Rattle.rules.specs.Lists.Laws.{pick-true, pick-false}
+use Rattle.rules.specs.Fields.{splice, signedOf, stampBytes, leBytes}
+use Rattle.rules.specs.SuperBlock.{Geometry, version10}
+use Rattle.rules.specs.SuperBlock.Laws.{GoodGeometry}
+use Rattle.rules.specs.Names.{pathGood}
+use Rattle.rules.specs.Index.{Entry, entry, fileType, itemsOf, entriesOf, innerSlots, slotAt, stampAt, typeDeletedFile, typeDeletedDirectory, identifierAt}
+use Rattle.rules.specs.Index.Walk.{walkAll}
+use Rattle.rules.specs.Paths.{lookup, liveAt, anyBelow}
+use Rattle.rules.specs.Refusals.{entries}
+use Rattle.rules.specs.Writing.{deletedKind, deleted, deleteOf, itemSlot}
+use Rattle.rules.specs.Writing.Laws.{refusedWrite, wrote, delete-done}
+use Rattle.geometry.specs.View.{geometryView}
+use Rattle.geometry.specs.declared.Geometry.{Geometry as Held}
+use Rattle.units.specs.declared.Offset.{Offset}
+use Rattle.super_block.specs.Written.{byte-alone, stamp-bits}
+use Rattle.index_laws.proofs.Items.{slotsIn}
+use Rattle.index_laws.proofs.Places.{Found, first-split, slot-there, place-within}
+use Rattle.image_laws.proofs.Areas.{slot-on, inner-end}
+use Rattle.image_laws.proofs.Indexes.{items-walk}
+use Rattle.judging.specs.View.{Opened, volumeOf, opened-super}
+use Rattle.erasing.specs.declared.Doom.{Doom}
+use Rattle.erasing.specs.declared.Doom.the-variants.{Refused, At}
+
+-- ---- the nine bytes
+unfoldable pub markedAt : List ℕ → ℕ → ℕ → ℤ → List ℕ
+markedAt s at t z = splice (splice s at (deletedKind t ∷ [])) (at + stampAt) (stampBytes z)
+
+pub kind-file : (t : ℕ) → fileType t ≡ true → typeDeletedFile ≡ deletedKind t
+unfolding deletedKind
+kind-file t f = sym (pick-true _ _ f)
+
+pub kind-directory : (t : ℕ) → fileType t ≡ false → typeDeletedDirectory ≡ deletedKind t
+unfolding deletedKind
+kind-directory t f = sym (pick-false _ _ f)
+
+-- written as fields of one byte and of eight
+pub marked-put : (s t u : List ℕ) (at b kind bits : ℕ) → b ≡ deletedKind kind → b < 256 → bits < 2 ^ 64
+    → t ≡ splice s at (leBytes 1 b) → u ≡ splice t (at + 2) (leBytes 8 bits) → u ≡ markedAt s at kind (signedOf bits)
+unfolding markedAt
+marked-put s t u at b kind bits is low fit e f = rw (f, e, byte-alone b low, is, stamp-bits bits fit)
+
+-- ---- the place of an entry that was found
+module _ (s : List ℕ) (g : Geometry) (good : GoodGeometry (length s) g) where
+  pub slot-within : (path : List ℕ) (e : Entry) → lookup path (entriesOf (itemsOf s g)) ≡ some e → slotAt s g (e .slot) + 64 ≤ length s
+  unfolding lookup itemSlot identifierAt
+  slot-within path e f =
+      let p : Found (liveAt path) (itemsOf s g) e = first-split (liveAt path) (itemsOf s g) e f in
+      let a : List ℕ = drop (slotAt s g 1) s in
+      let w : walkAll (innerSlots g) 1 a ≡ p .pre ++ (entry e ∷ p .post) = sym (items-walk s g) ∙ p .split in
+      let k : e .slot ≡ 1 + slotsIn (p .pre) = slot-there (innerSlots g) 1 a (p .pre) (entry e) (p .post) w in
+      omega (arith, ap (slotAt s g) k, slot-on s g (slotsIn (p .pre)), inner-end s g good, place-within (innerSlots g) 1 a (p .pre) (entry e) (p .post) w, good .index-low, good .index-fits)
+
+-- ---- what was planned
+unfoldable pub Planned : List ℕ → List ℕ → Doom → Type 0
+Planned s path (Refused n) = (z : ℤ) → deleteOf s path z ≡ refusedWrite s n
+Planned s path (At at t) = (at .0 + 64 ≤ length s) × ((z : ℤ) → deleteOf s path z ≡ wrote (markedAt s (at .0) t z))
+
+module _ (s path : List ℕ) (r : Doom) (told : Planned s path r) where
+  pub planned-refused : (n : ℕ) → r ≡ Refused n → (z : ℤ) → deleteOf s path z ≡ refusedWrite s n
+  unfolding Planned
+  planned-refused n e = rw e at told
+
+  pub planned-at : (at : Offset) (t : ℕ) → r ≡ At at t → (at .0 + 64 ≤ length s) × ((z : ℤ) → deleteOf s path z ≡ wrote (markedAt s (at .0) t z))
+  unfolding Planned
+  planned-at at t e = rw e at told
+
+-- an entry that may be deleted
+module _ (s path : List ℕ) (g : Held) (opened : Opened s g) (e : Entry) (found : lookup path (entries (volumeOf s (geometryView g))) ≡ some e) where
+  pub entry-within : length s - g .index + 64 * e .slot + 64 ≤ length s
+  unfolding slotAt
+  entry-within = slot-within s (geometryView g) (opened-super s g opened .good) path e found
+
+  pub entry-planned : g .version ≤ version10 → pathGood path ≡ true → anyBelow path (entries (volumeOf s (geometryView g))) ≡ false
+      → (at : ℕ) → at ≡ length s - g .index + 64 * e .slot → (z : ℤ) → deleteOf s path z ≡ wrote (markedAt s at (e .kind) z)
+  unfolding markedAt deleted slotAt
+  entry-planned v p b at i z = delete-done s (volumeOf s (geometryView g)) opened v path z p e found b ∙ rw i

@@ -1,0 +1,179 @@
+-- Deleted runs cleared one after the other, while the walk goes on behind them.
+use Prim.Native.Nat.{ℕ, zero, suc, _+_, _-_, _*_, _≤_, _<_}
+use mathlib.Core.Path.{_≡_, refl, sym, ap, _∙_}
+use mathlib.Core.Bool.{true}
+use mathlib.Core.List.{List, [], _∷_}
+use native.Mathlib.Omega.{arith}
+use lib.ListN.{length, drop}
+use lib.IntN.{ℤ}
+use lib.Dec.{eqb}
+use borrow.Author.Tests.{eq-eqb, ne-eqb}
+use Rattle.rules.specs.Lists.{pick, padded}
+use Rattle.rules.specs.Lists.Laws.{length-padded}
+use Rattle.rules.specs.Fields.{splice}
+use Rattle.rules.specs.Fields.Laws.{length-splice, splice-nil}
+use Rattle.rules.specs.SuperBlock.{Geometry, version10, trimData, withData, restamp, putSizes, sizesBytes, superBlockAt}
+use Rattle.rules.specs.SuperBlock.Laws.{GoodGeometry, length-sizes}
+use Rattle.rules.specs.Index.{Entry, typeUnused, deletedType, slotAt, unusedBytes, itemsOf, entriesOf}
+use Rattle.rules.specs.Index.Walk.{walkAll, pick-both}
+use Rattle.rules.specs.Refusals.{accepted, judge}
+use Rattle.rules.specs.Writing.{isDeleted, cleared, leastEnd, reclaimOf}
+use Rattle.rules.specs.Writing.Laws.{wrote, reclaim-done}
+use Rattle.index.specs.declared.Cursor.{Cursor}
+use Rattle.index.specs.declared.Head.{Head}
+use Rattle.index.specs.View.{itemsFrom, headView}
+use Rattle.index.specs.Steps.{Walks, HeadIn, Step, entriesFrom}
+use Rattle.super_block.specs.Written.{join}
+use Rattle.index_laws.proofs.ListFacts.{drop-splice-after}
+use Rattle.index_laws.proofs.Unused.{length-unusedBytes}
+use Rattle.judging.specs.View.{volumeOf}
+use Rattle.image_laws.proofs.Areas.{index-start}
+use Rattle.image_laws.proofs.Sizes.{restamp-index, sizes-long}
+
+-- ---- unused slots, one at a time
+one-slot : length (padded (typeUnused ∷ []) 64) ≡ 64
+one-slot = length-padded (typeUnused ∷ []) 64 (omega arith)
+
+pub run-turn : (s t : List ℕ) (at n : ℕ) → 0 < n → at + 64 * n ≤ length s → t ≡ splice s at (padded (typeUnused ∷ []) (at + 64 - at))
+    → splice t (at + 64) (unusedBytes (n - 1)) ≡ splice s at (unusedBytes n)
+unfolding unusedBytes
+run-turn s t at zero low fits e = absurd (omega arith)
+run-turn s t at (suc m) low fits e =
+    let w : at + 64 - at ≡ 64 = omega arith in
+    let l : suc m - 1 ≡ m = omega arith in
+    rw (e, w, l) (join s at (padded (typeUnused ∷ []) 64) 64 (unusedBytes m) one-slot (omega (arith, length-unusedBytes m)))
+
+pub run-end : (s : List ℕ) (at n : ℕ) → n ≡ 0 → splice s at (unusedBytes n) ≡ s
+unfolding unusedBytes
+run-end s at n z = rw z (splice-nil s at)
+
+-- ---- an entry that stands at the front
+-- the image once its run is cleared, if it is deleted
+unfoldable pub headCleared : List ℕ → Head → List ℕ
+headCleared s h = pick (deletedType (h .kind)) (splice s (h .at .0) (unusedBytes (h .slots))) s
+
+pub deleted-directory : (t : ℕ) → t ≡ 0x19 → true ≡ deletedType t
+unfolding deletedType
+deleted-directory t e = rw (eq-eqb t 0x19 e)
+
+pub deleted-other : (t : ℕ) → (t ≡ 0x19 → ⊥) → eqb t 0x1A ≡ deletedType t
+unfolding deletedType
+deleted-other t d = rw (ne-eqb t 0x19 d)
+
+-- what is written lies before the place n
+module _ (s : List ℕ) (h : Head) (head : HeadIn s h) where
+  cleared-long : length (headCleared s h) ≡ length s
+  unfolding headCleared
+  cleared-long =
+      pick-both (λ (u : List ℕ). length u ≡ length s) (deletedType (h .kind)) _ s
+      (length-splice s (h .at .0) (unusedBytes (h .slots)) (omega (arith, head .fits, length-unusedBytes (h .slots)))) refl
+
+  cleared-behind : (n : ℕ) → n ≡ h .at .0 + 64 * h .slots → drop n (headCleared s h) ≡ drop n s
+  unfolding headCleared
+  cleared-behind n e =
+      pick-both (λ (u : List ℕ). drop n u ≡ drop n s) (deletedType (h .kind)) _ s
+      (drop-splice-after s (h .at .0) (unusedBytes (h .slots)) (omega (arith, head .fits)) n (omega (arith, length-unusedBytes (h .slots)))) refl
+
+-- ---- the walk depends on the image from the cursor on
+module _ (s t : List ℕ) (c : Cursor) (long : length t ≡ length s) (same : drop (c .at .0) t ≡ drop (c .at .0) s) where
+  items-kept : itemsFrom t c ≡ itemsFrom s c
+  items-kept = ap (walkAll (c .left) (c .slot .0)) same
+
+  walks-kept : Walks s c → Walks t c
+  walks-kept w = record {
+    inside = record { fits = omega (arith, long, w .inside .fits); short = omega (arith, long, w .inside .short); numbers = w .inside .numbers };
+    sound = rw items-kept (w .sound);
+  }
+
+-- ---- clearing what is left from d in t comes to clearing all from c in s
+pub record Clears (s : List ℕ) (c : Cursor) (t : List ℕ) (d : Cursor) : Type 0 where
+  pub place : (g : Geometry) → c .at .0 ≡ slotAt s g (c .slot .0) → d .at .0 ≡ slotAt t g (d .slot .0)
+  pub rest : (g : Geometry) → c .at .0 ≡ slotAt s g (c .slot .0) → cleared t g (entriesFrom t d) ≡ cleared s g (entriesFrom s c)
+
+pub clears-none : (s : List ℕ) (c : Cursor) → Clears s c s c
+clears-none s c = record { place = λ g p. p; rest = λ g p. refl }
+
+clears-both : (s t u : List ℕ) (b c d : Cursor) → Clears s b t c → Clears t c u d → Clears s b u d
+clears-both s t u b c d x y = record { place = λ g p. y .place g (x .place g p); rest = λ g p. y .rest g (x .place g p) ∙ x .rest g p }
+
+pub clears-all : (s t : List ℕ) (c d : Cursor) → Clears s c t d → entriesFrom t d ≡ []
+    → (g : Geometry) → c .at .0 ≡ slotAt s g (c .slot .0) → t ≡ cleared s g (entriesFrom s c)
+unfolding cleared
+clears-all s t c d x e g p = rw e at (x .rest g p)
+
+-- a step, and the entry that it found
+module _ (s : List ℕ) (c : Cursor) (h : Head) (d : Cursor) (step : Step s c h d) (t : List ℕ) (is : t ≡ headCleared s h) where
+  long : length t ≡ length s
+  long = ap length is ∙ cleared-long s h (step .head)
+
+  same : drop (d .at .0) t ≡ drop (d .at .0) s
+  same = ap (drop (d .at .0)) is ∙ cleared-behind s h (step .head) (d .at .0) (step .after)
+
+  pub step-walks : Walks t d
+  step-walks = walks-kept s t d long same (step .walks)
+
+  head-place : (g : Geometry) → c .at .0 ≡ slotAt s g (c .slot .0) → h .at .0 ≡ slotAt s g (h .slot .0)
+  unfolding slotAt
+  head-place g p = omega (arith, step .place)
+
+  next-place : (g : Geometry) → c .at .0 ≡ slotAt s g (c .slot .0) → d .at .0 ≡ slotAt t g (d .slot .0)
+  unfolding slotAt
+  next-place g p = omega (arith, step .place, step .after, step .number, long)
+
+  front : (g : Geometry) → h .at .0 ≡ slotAt s g (h .slot .0) → (es : List Entry) → cleared s g (headView s h ∷ es) ≡ cleared t g es
+  unfolding cleared isDeleted headView headCleared
+  front g p es = rw (is, p)
+
+  step-clears : Clears s c t d
+  step-clears = record {
+    place = next-place;
+    rest = λ g p. ap (λ es. cleared t g es) (ap entriesOf (items-kept s t d long same)) ∙ sym (front g (head-place g p) (entriesFrom s d)) ∙ sym (ap (cleared s g) (step .entries));
+  }
+
+  pub clears-more : (r : List ℕ) (b : Cursor) → Clears r b s c → Clears r b t d
+  clears-more r b x = clears-both r s t b c d x step-clears
+
+-- ---- the image that a reclaim leaves, of a volume with the geometry g
+abbrev pub leastSizes : List ℕ → Geometry → ℤ → Geometry
+leastSizes s g z = restamp g (trimData g (leastEnd (entriesOf (itemsOf s g)))) z
+
+unfoldable pub reclaimed : List ℕ → Geometry → ℤ → List ℕ
+reclaimed s g z = cleared (putSizes s (leastSizes s g z)) (leastSizes s g z) (entriesOf (itemsOf s g))
+
+pub reclaim-written : (s : List ℕ) (g : Geometry) → judge s ≡ accepted (volumeOf s g) → g .version ≤ version10 → (z : ℤ) → reclaimOf s z ≡ wrote (reclaimed s g z)
+unfolding reclaimed
+reclaim-written s g o c z = reclaim-done s (volumeOf s g) o c z
+
+-- the sizes lie before the index area, whose size is kept
+module _ (s : List ℕ) (g : Geometry) (good : GoodGeometry (length s) g) (k : Geometry) (c : Cursor) (at : c .at .0 ≡ slotAt s g (c .slot .0)) where
+  sizes-behind : drop (c .at .0) (putSizes s k) ≡ drop (c .at .0) s
+  unfolding putSizes slotAt
+  sizes-behind = drop-splice-after s superBlockAt (sizesBytes k) (omega (arith, index-start s g good, good .index-low)) (c .at .0) (omega (arith, length-sizes k, index-start s g good))
+
+  pub sizes-walks : Walks s c → (t : List ℕ) → t ≡ putSizes s k → Walks t c
+  sizes-walks w t e = rw e (walks-kept s (putSizes s k) c (sizes-long s g k good) sizes-behind w)
+
+  sizes-place : k .indexBytes ≡ g .indexBytes → c .at .0 ≡ slotAt (putSizes s k) k (c .slot .0)
+  unfolding slotAt
+  sizes-place e = omega (arith, sizes-long s g k good, e)
+
+  sizes-entries : itemsFrom s c ≡ itemsOf s g → entriesFrom (putSizes s k) c ≡ entriesOf (itemsOf s g)
+  sizes-entries i = ap entriesOf (items-kept s (putSizes s k) c (sizes-long s g k good) sizes-behind ∙ i)
+
+-- trimming and stamping keep the index area's size
+least-index : (s : List ℕ) (g : Geometry) (z : ℤ) → leastSizes s g z .indexBytes ≡ g .indexBytes
+unfolding trimData withData
+least-index s g z = restamp-index g (trimData g (leastEnd (entriesOf (itemsOf s g)))) z
+
+-- ---- as a program writes it: the sizes k, then the runs from the cursor at the first inner slot on
+module _ (s : List ℕ) (g : Geometry) (z : ℤ) (c : Cursor) (items : itemsFrom s c ≡ itemsOf s g) (at : c .at .0 ≡ slotAt s g (c .slot .0)) where
+  pub sizes-are : (e : ℕ) (t k : Geometry) → e ≡ leastEnd (entriesFrom s c) → t ≡ trimData g e → k ≡ restamp g t z → k ≡ leastSizes s g z
+  sizes-are e t k x y w = w ∙ ap (λ h. restamp g h z) (y ∙ ap (trimData g) (x ∙ ap (λ is. leastEnd (entriesOf is)) items))
+
+  pub reclaimed-put : GoodGeometry (length s) g → (k : Geometry) → k ≡ leastSizes s g z → (t u : List ℕ) → t ≡ putSizes s k
+      → ((h : Geometry) → c .at .0 ≡ slotAt t h (c .slot .0) → u ≡ cleared t h (entriesFrom t c)) → u ≡ reclaimed s g z
+  unfolding reclaimed
+  reclaimed-put good k is t u e clears =
+      let f : t ≡ putSizes s (leastSizes s g z) = e ∙ ap (putSizes s) is in
+      let p : c .at .0 ≡ slotAt t (leastSizes s g z) (c .slot .0) = rw f (sizes-place s g good (leastSizes s g z) c at (least-index s g z)) in
+      clears (leastSizes s g z) p ∙ rw f (ap (cleared (putSizes s (leastSizes s g z)) (leastSizes s g z)) (sizes-entries s g good (leastSizes s g z) c at items))

@@ -1,0 +1,183 @@
+// The calls delete and reclaim. All is judged first; what is to be written is known by value before the first byte is.
+
+use geometry::Geometry;
+use index::Cursor;
+use index::Head;
+use index::Next;
+use judging::Judged;
+use paths::Search;
+use units::Block;
+use units::Offset;
+ghost use mathlib.Core.Path.{_≡_};
+ghost use Prim.Native.Nat.{_+_, _*_, _≤_};
+ghost use lib.ListN.{length};
+ghost use Rattle.rules.specs.Fields.{splice, signedOf};
+ghost use Rattle.rules.specs.SuperBlock.{Geometry as Sizes};
+ghost use Rattle.rules.specs.Index.{deletedType, slotAt, unusedBytes};
+ghost use Rattle.rules.specs.Writing.{deletedKind, deleteOf, cleared, reclaimOf};
+ghost use Rattle.rules.specs.Writing.Laws.{writtenAs};
+ghost use Rattle.geometry.specs.View.{geometryView};
+ghost use Rattle.index.specs.Steps.{Walks, HeadIn, entriesFrom};
+ghost use Rattle.judging.specs.View.{Opened};
+ghost use Rattle.erasing.specs.Delete.{markedAt, Planned};
+ghost use Rattle.erasing.specs.Reclaim.{headCleared, reclaimed};
+
+// The last version that may be written.
+const VERSION: u8 = 0x10;
+
+// The place of an entry's stamp in its first slot.
+const STAMP: usize = 2;
+
+const SLOT: usize = 64;
+
+// ---- delete
+
+// What a delete comes to: a refusal, or an entry's first slot and its type.
+enum Doom {
+    Refused(u8),
+    At(Offset, u8),
+}
+
+// The type that an entry of this type has once it is deleted.
+fn deleted_kind(kind: u8) -> u8
+    ensures { λ r. ⌜ r ≡ deletedKind kind ⌝ }
+{
+    if index::is_file(kind) {
+        return 0x1A;
+    }
+    0x19
+}
+
+fn plan_entry(img: &[u8], g: Geometry, path: &[u8]) -> Doom
+    requires { ⌜ Opened (now img) g ⌝ }
+    ensures { λ r. ⌜ Planned (now (img .entry)) (now (path .entry)) r ⌝ }
+{
+    if VERSION < g.version {
+        return Doom::Refused(9);
+    }
+    if !names::path_good(path) {
+        return Doom::Refused(10);
+    }
+    let from = super_block::first_slot(img, g);
+    match paths::lookup(img, from, path) {
+        Search::Nothing => Doom::Refused(11),
+        Search::Entry(h) => {
+            if paths::any_below(img, from, path) {
+                return Doom::Refused(14);
+            }
+            let start = units::index_start(img.len() as u64, g.index);
+            Doom::At(h.slot.offset(start), h.kind)
+        }
+    }
+}
+
+fn plan_delete(img: &[u8], path: &[u8]) -> Doom
+    ensures { λ r. ⌜ Planned (now (img .entry)) (now (path .entry)) r ⌝ }
+{
+    match judging::judge(img) {
+        Judged::Refused(n) => Doom::Refused(n),
+        Judged::Good(g) => plan_entry(img, g, path),
+    }
+}
+
+// The type and the stamp of an entry that is deleted.
+fn mark(img: &mut [u8], at: usize, kind: u8, stamp: u64)
+    requires { ⌜ at + 64 ≤ length (now img) ⌝ }
+    ensures { λ _. ⌜ now (img .exit) ≡ markedAt (now (img .entry)) at kind (signedOf stamp) ⌝ }
+{
+    fields::put_le(img, at, 1, fields::wide(deleted_kind(kind)));
+    fields::put_le(img, at + STAMP, 8, stamp);
+}
+
+// The refusal, 0 on success; `stamp` is the stamp's 64 bits.
+pub fn delete(img: &mut [u8], path: &[u8], stamp: u64) -> u32
+    ensures { λ r. ⌜ writtenAs r (now (img .exit)) ≡ deleteOf (now (img .entry)) (now (path .entry)) (signedOf stamp) ⌝ }
+{
+    match plan_delete(img, path) {
+        Doom::Refused(n) => n as u32,
+        Doom::At(at, kind) => {
+            mark(img, at.0, kind, stamp);
+            0
+        }
+    }
+}
+
+// ---- reclaim
+
+fn is_deleted(kind: u8) -> bool
+    ensures { λ r. ⌜ r ≡ deletedType kind ⌝ }
+{
+    if kind == 0x19 {
+        return true;
+    }
+    kind == 0x1A
+}
+
+// So many slots from `at` on become unused.
+fn clear_run(img: &mut [u8], at: usize, slots: u64)
+    requires { ⌜ at + 64 * slots ≤ length (now img) ⌝ }
+    ensures { λ _. ⌜ now (img .exit) ≡ splice (now (img .entry)) at (unusedBytes slots) ⌝ }
+{
+    let mut place = at;
+    let mut left = slots;
+    while 0 < left {
+        copying::write_part(img, place, place + SLOT, b"\x10");
+        place += SLOT;
+        left -= 1;
+    }
+}
+
+// The run of an entry is cleared if it is deleted.
+fn clear_head(img: &mut [u8], h: Head)
+    requires { ⌜ HeadIn (now img) h ⌝ }
+    ensures { λ _. ⌜ now (img .exit) ≡ headCleared (now (img .entry)) h ⌝ }
+{
+    if is_deleted(h.kind) {
+        clear_run(img, h.at.0, h.slots);
+    }
+}
+
+// Every deleted run from the cursor on is cleared. What is cleared lies before the cursor that the walk goes on from.
+fn clear_deleted(img: &mut [u8], from: Cursor)
+    requires { ⌜ Walks (now img) from ⌝ }
+    ensures { λ _. ⌜ ((g : Sizes) → from .at .0 ≡ slotAt (now (img .entry)) g (from .slot .0) → now (img .exit) ≡ cleared (now (img .entry)) g (entriesFrom (now (img .entry)) from)) ⌝ }
+{
+    let mut c = from;
+    loop {
+        match index::next_entry(img, c) {
+            Next::End => return,
+            Next::Found(h, rest) => {
+                clear_head(img, h);
+                c = rest;
+            }
+        }
+    }
+}
+
+// The sizes with the least data area, then the runs.
+fn write_reclaimed(img: &mut [u8], g: Geometry, stamp: u64)
+    requires { ⌜ Opened (now img) g ⌝ }
+    ensures { λ _. ⌜ now (img .exit) ≡ reclaimed (now (img .entry)) (geometryView g) (signedOf stamp) ⌝ }
+{
+    let from = super_block::first_slot(img, g);
+    let end = Block(free_runs::last_end(img, from));
+    let least = g.trim_data(end).restamp(g, stamp);
+    super_block::put_sizes(img, least);
+    clear_deleted(img, from);
+}
+
+// The refusal, 0 on success; `stamp` is the stamp's 64 bits.
+pub fn reclaim(img: &mut [u8], stamp: u64) -> u32
+    ensures { λ r. ⌜ writtenAs r (now (img .exit)) ≡ reclaimOf (now (img .entry)) (signedOf stamp) ⌝ }
+{
+    match judging::judge(img) {
+        Judged::Refused(n) => n as u32,
+        Judged::Good(g) => {
+            if VERSION < g.version {
+                return 9;
+            }
+            write_reclaimed(img, g, stamp);
+            0
+        }
+    }
+}
