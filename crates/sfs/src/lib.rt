@@ -8,6 +8,7 @@ ghost use mathlib.Core.Path.{_≡_};
 ghost use Rattle.rules.specs.Reading.{openOf, findOf, readOf, listOf};
 ghost use Rattle.rules.specs.Writing.{formatOf, createOf, deleteOf, reclaimOf, newFile, newDirectory};
 ghost use Rattle.rules.specs.Writing.Laws.{writtenAs};
+ghost use Rattle.sfs.specs.Text.{text, textOf};
 ghost use Rattle.reading.specs.View.{volumeView, entryView, contentView, listedView};
 
 #[no_mangle]
@@ -77,4 +78,15 @@ pub extern "C" fn sfs_reclaim(image: &mut [u8], stamp: i64) -> u32
     ensures { λ r. ⌜ writtenAs r (now (image .exit)) ≡ reclaimOf (now (image .entry)) stamp ⌝ }
 {
     erasing::reclaim(image, stamps::to_bits(stamp))
+}
+
+// The listing program's text, in an output that any text fits.
+#[no_mangle]
+pub extern "C" fn sfs_listing(image: &[u8], out: &mut [u8]) -> u64
+    ensures { λ r. ⌜ text r (now (out .exit)) ≡ textOf (now (image .entry)) (now (out .entry)) ⌝ }
+{
+    if out.len() < 131_072 {
+        return 0;
+    }
+    listing::listing(image, out) as u64
 }

@@ -20,9 +20,12 @@ Inv-loop img n at₀ slot₀ left₀ first₀ at slot left first =
 abbrev μ-loop : tie.MeasureT-loop
 μ-loop img n at₀ slot₀ left₀ first₀ at slot left first = left
 
+some-left : (c : tie.In-loop Inv-loop μ-loop) → 0 < c .before .loop .left
+some-left c = omega (arith, c .loop-test .taken)
+
 -- the slots of an entry that stands at the cursor are left
 entry-left : (c : tie.After-head-at Inv-loop μ-loop) → c .head-at .result .slots ≤ c .before .before .before .before .before .loop .left
-entry-left c = slots-left (now (c .before .before .before .before .before .before .before .args .img)) _ (c .before .before .before .before .before .loop .inv .0) (c .before .before .before .before .loop-test .taken) (sym (c .before .before .is-entry .ensures) ∙ c .before .if1 .taken) _ (c .head-at .ensures .0)
+entry-left c = slots-left (now (c .before .before .before .before .before .before .before .args .img)) _ (c .before .before .before .before .before .loop .inv .0) (some-left (c .before .before .before .before)) (sym (c .before .before .is-entry .ensures) ∙ c .before .if1 .taken) _ (c .head-at .ensures .0)
 
 loop-holds : tie.Need-loop-holds Inv-loop μ-loop
 loop-holds c = let a = c .before .args in
@@ -53,13 +56,13 @@ loop-less : tie.Need-loop-less Inv-loop μ-loop
 loop-less c = let l = c .before .before .before .before .before .loop in
     let s = now (c .before .before .before .before .before .before .before .args .img) in
     let t = sym (c .before .before .is-entry .ensures) ∙ c .before .if1 .taken in
-    entry-less s (l .at) (l .slot) (l .left) (l .inv .0) (c .before .before .before .before .loop-test .taken) t _ (c .head-at .ensures .0)
+    entry-less s (l .at) (l .slot) (l .left) (l .inv .0) (some-left (c .before .before .before .before)) t _ (c .head-at .ensures .0)
 
 loop-again : tie.Need-loop-again Inv-loop μ-loop
 loop-again c = let l = c .before .before .before .before .before .loop in
     let s = now (c .before .before .before .before .before .before .before .args .img) in
     let t = sym (c .before .before .is-entry .ensures) ∙ c .before .if1 .taken in
-    let m = c .before .before .before .before .loop-test .taken in
+    let m = some-left (c .before .before .before .before) in
     let v = c .head-at .ensures in (
       entry-walks s (l .at) (l .slot) (l .left) (l .inv .0) m t _ (v .0) (v .1 .0) (v .1 .1),
       omega arith,
@@ -84,7 +87,7 @@ returns c = let l = c .before .before .before .before .before .loop in
     let s = now (c .before .before .before .before .before .before .before .args .img) in
     let t = sym (c .before .before .is-entry .ensures) ∙ c .before .if1 .left in
     sym (search-full _ s (l .first) (l .at + 64) (l .slot + 1) (l .left - 1) (c .before .before .before .before .before .before .before .pre .1) (c .if2 .taken))
-    ∙ search-unused _ s (l .first) (l .at) (l .slot) (l .left) (l .inv .2) (l .inv .0) (c .before .before .before .before .loop-test .taken) (l .inv .1) t
+    ∙ search-unused _ s (l .first) (l .at) (l .slot) (l .left) (l .inv .2) (l .inv .0) (some-left (c .before .before .before .before)) (l .inv .1) t
     ∙ l .inv .3
 
 loop-less-2 : tie.Need-loop-less-2 Inv-loop μ-loop
@@ -94,7 +97,7 @@ loop-again-2 : tie.Need-loop-again-2 Inv-loop μ-loop
 loop-again-2 c = let l = c .before .before .before .before .before .loop in
     let s = now (c .before .before .before .before .before .before .before .args .img) in
     let t = sym (c .before .before .is-entry .ensures) ∙ c .before .if1 .left in
-    let m = c .before .before .before .before .loop-test .taken in (
+    let m = some-left (c .before .before .before .before) in (
       skip-walks s (l .at) (l .slot) (l .left) (l .inv .0) m t,
       omega (arith, l .inv .1),
       omega (arith, l .inv .1, l .inv .2, c .if2 .left),

@@ -1,0 +1,151 @@
+//! The proved library behind its C interface, as declared in `include/sfs.h`.
+
+use second::store::Store;
+use second::{Found, Listed, Opened, Read, Written};
+
+#[repr(C)]
+struct Volume {
+    refusal: u32,
+    version: u32,
+    total: u64,
+    reserved: u64,
+    block_length: u64,
+    data: u64,
+    index: u64,
+    stamp: i64,
+    volume_stamp: i64,
+    name_length: u64,
+}
+
+#[repr(C)]
+struct Entry {
+    refusal: u32,
+    kind: u32,
+    slot: u64,
+    start: u64,
+    end: u64,
+    length: u64,
+    stamp: i64,
+}
+
+#[repr(C)]
+struct ListedEntry {
+    refusal: u32,
+    kind: u32,
+    slot: u64,
+    start: u64,
+    end: u64,
+    length: u64,
+    stamp: i64,
+    path_length: u64,
+}
+
+#[repr(C)]
+struct Content {
+    refusal: u32,
+    length: u64,
+}
+
+extern "C" {
+    fn sfs_format(image: *mut u8, n: usize, block: u64, reserved: u64, name: *const u8, m: usize, stamp: i64) -> u32;
+    fn sfs_open(image: *const u8, n: usize, out: *mut u8, m: usize) -> Volume;
+    fn sfs_find(image: *const u8, n: usize, path: *const u8, m: usize) -> Entry;
+    fn sfs_list(image: *const u8, n: usize, slot: u64, out: *mut u8, m: usize) -> ListedEntry;
+    fn sfs_read(image: *const u8, n: usize, path: *const u8, m: usize, out: *mut u8, k: usize) -> Content;
+    fn sfs_create_file(image: *mut u8, n: usize, path: *const u8, m: usize, bytes: *const u8, k: usize, stamp: i64) -> u32;
+    fn sfs_create_directory(image: *mut u8, n: usize, path: *const u8, m: usize, stamp: i64) -> u32;
+    fn sfs_delete(image: *mut u8, n: usize, path: *const u8, m: usize, stamp: i64) -> u32;
+    fn sfs_reclaim(image: *mut u8, n: usize, stamp: i64) -> u32;
+    fn sfs_listing(image: *const u8, n: usize, out: *mut u8, m: usize) -> u64;
+}
+
+/// Room for the text of any image that the listing program takes.
+const LISTING_ROOM: usize = 131_072;
+
+/// The library's calls. Each pointer comes with the length of the slice it was taken from, and no two slices overlap.
+#[derive(Clone, Copy, Debug, Default)]
+pub struct Library;
+
+fn written(refusal: u32) -> Written {
+    Written { refusal: refusal as u8 }
+}
+
+impl Store for Library {
+    fn format(&self, image: &mut [u8], block: u64, reserved: u64, name: &[u8], stamp: i64) -> Written {
+        written(unsafe { sfs_format(image.as_mut_ptr(), image.len(), block, reserved, name.as_ptr(), name.len(), stamp) })
+    }
+
+    fn open(&self, image: &[u8], out: &mut [u8]) -> Opened {
+        let a = unsafe { sfs_open(image.as_ptr(), image.len(), out.as_mut_ptr(), out.len()) };
+        Opened {
+            refusal: a.refusal as u8,
+            version: a.version as u8,
+            total: a.total,
+            reserved: a.reserved,
+            block_length: a.block_length,
+            data: a.data,
+            index: a.index,
+            super_block_stamp: a.stamp,
+            volume_stamp: a.volume_stamp,
+            name_length: a.name_length,
+        }
+    }
+
+    fn find(&self, image: &[u8], path: &[u8]) -> Found {
+        let a = unsafe { sfs_find(image.as_ptr(), image.len(), path.as_ptr(), path.len()) };
+        Found {
+            refusal: a.refusal as u8,
+            slot: a.slot,
+            kind: a.kind as u8,
+            start: a.start,
+            end: a.end,
+            length: a.length,
+            stamp: a.stamp,
+        }
+    }
+
+    fn list(&self, image: &[u8], slot: u64, out: &mut [u8]) -> Listed {
+        let a = unsafe { sfs_list(image.as_ptr(), image.len(), slot, out.as_mut_ptr(), out.len()) };
+        Listed {
+            refusal: a.refusal as u8,
+            slot: a.slot,
+            kind: a.kind as u8,
+            start: a.start,
+            end: a.end,
+            length: a.length,
+            stamp: a.stamp,
+            path_length: a.path_length,
+        }
+    }
+
+    fn read(&self, image: &[u8], path: &[u8], out: &mut [u8]) -> Read {
+        let a = unsafe {
+            sfs_read(image.as_ptr(), image.len(), path.as_ptr(), path.len(), out.as_mut_ptr(), out.len())
+        };
+        Read { refusal: a.refusal as u8, length: a.length }
+    }
+
+    fn create_file(&self, image: &mut [u8], path: &[u8], stamp: i64, bytes: &[u8]) -> Written {
+        let (i, n) = (image.as_mut_ptr(), image.len());
+        written(unsafe { sfs_create_file(i, n, path.as_ptr(), path.len(), bytes.as_ptr(), bytes.len(), stamp) })
+    }
+
+    fn create_directory(&self, image: &mut [u8], path: &[u8], stamp: i64) -> Written {
+        written(unsafe { sfs_create_directory(image.as_mut_ptr(), image.len(), path.as_ptr(), path.len(), stamp) })
+    }
+
+    fn delete(&self, image: &mut [u8], path: &[u8], stamp: i64) -> Written {
+        written(unsafe { sfs_delete(image.as_mut_ptr(), image.len(), path.as_ptr(), path.len(), stamp) })
+    }
+
+    fn reclaim(&self, image: &mut [u8], stamp: i64) -> Written {
+        written(unsafe { sfs_reclaim(image.as_mut_ptr(), image.len(), stamp) })
+    }
+
+    fn listing(&self, input: &[u8]) -> Vec<u8> {
+        let mut text = vec![0; LISTING_ROOM];
+        let length = unsafe { sfs_listing(input.as_ptr(), input.len(), text.as_mut_ptr(), text.len()) };
+        text.truncate(length as usize);
+        text
+    }
+}

@@ -1,0 +1,75 @@
+-- The whole text: a volume's, as its writers cut it, and the listing by what the judgement says.
+use Prim.Native.Nat.{ℕ, _+_, _-_, _^_, _≤_, _<_}
+use mathlib.Core.Path.{_≡_, refl, sym, ap, _∙_}
+use mathlib.Core.List.{List, [], _∷_, _++_}
+use lib.ListN.{length, length-append, take, drop}
+use native.Mathlib.Omega.{arith}
+use lib.Dec.{leb}
+use borrow.Author.Tests.{le-leb, lt-leb}
+use Rattle.rules.specs.Lists.{only}
+use Rattle.rules.specs.Index.{Entry, volumeName, itemsOf}
+use Rattle.rules.specs.Regions.{heldBlocks}
+use Rattle.rules.specs.Paths.{isLive}
+use Rattle.rules.specs.Dates.{decimal}
+use Rattle.rules.specs.Refusals.{Volume, refused, accepted, entries, judge}
+use Rattle.rules.specs.Refusals.Laws.{need-true, need-false, judge-opens}
+use Rattle.rules.specs.Listing.{countLine, refusedLine, volumeText, listingOf}
+use Rattle.geometry.specs.View.{geometryView}
+use Rattle.geometry.specs.declared.Geometry.{Geometry as Held}
+use Rattle.index.specs.declared.Cursor.{Cursor}
+use Rattle.index.specs.View.{Inside, itemsFrom}
+use Rattle.index.specs.Steps.{Walks, entriesFrom}
+use Rattle.super_block.specs.Ends.{name-part}
+use Rattle.paths.specs.Entries.{lent-name}
+use Rattle.regions.specs.Bounds.{good-bounded}
+use Rattle.free_runs.specs.Sums.{held-fits}
+use Rattle.judging.specs.View.{Opened, volumeOf, opened-super, opened-walks}
+use Rattle.listing.specs.Lines.{liveText}
+
+-- `live N held M`
+abbrev pub countText : ℕ → ℕ → List ℕ
+countText live held =
+    (0x6C ∷ 0x69 ∷ 0x76 ∷ 0x65 ∷ 0x20 ∷ decimal live)
+    ++ (0x20 ∷ 0x68 ∷ 0x65 ∷ 0x6C ∷ 0x64 ∷ 0x20 ∷ (decimal held ++ (0x0A ∷ [])))
+
+pub count-is : (es : List Entry) (live held : ℕ) → live ≡ length (only isLive es) → held ≡ heldBlocks es → countText live held ≡ countLine es
+unfolding countLine
+count-is es live held l h = rw (l, h)
+
+pub count-length : (live held : ℕ) → length (countText live held) ≡ 12 + (length (decimal live) + length (decimal held))
+count-length live held = simp length-append (omega arith)
+
+abbrev pub nameText : List ℕ → List ℕ
+nameText s = volumeName s ++ (0x0A ∷ [])
+
+-- a program lends the name by its place and length
+pub lent-volume : (s : List ℕ) → 64 ≤ length s → (n : ℕ) → n ≡ length (volumeName s) → take (length s - 52 + n - (length s - 52)) (drop (length s - 52) s) ≡ volumeName s
+lent-volume s h n e = lent-name s (length s - 52) n ∙ sym (name-part s h n e)
+
+abbrev pub entriesText : List Entry → List ℕ
+entriesText es = liveText es ++ countLine es
+
+-- the text of an image that opens
+abbrev pub openedText : List ℕ → Held → List ℕ
+openedText s g = nameText s ++ entriesText (entries (volumeOf s (geometryView g)))
+
+-- ---- the listing
+module _ (s : List ℕ) where
+  pub listing-long : 65_536 < length s → listingOf s ≡ refusedLine 1
+  unfolding listingOf volumeText
+  listing-long h = ap (volumeText s) (need-false 1 (judge s) (lt-leb (length s) 65_536 h))
+
+  module _ (short : length s ≤ 65_536) where
+    pub listing-refused : (n : ℕ) → judge s ≡ refused n → listingOf s ≡ refusedLine n
+    unfolding listingOf volumeText
+    listing-refused n e = ap (volumeText s) (need-true 1 (judge s) (le-leb (length s) 65_536 short) ∙ e)
+
+    pub listing-opened : (g : Held) → Opened s g → listingOf s ≡ openedText s g
+    unfolding listingOf volumeText liveText
+    listing-opened g e = ap (volumeText s) (need-true 1 (judge s) (le-leb (length s) 65_536 short) ∙ e)
+
+-- the blocks held fit 64 bits
+pub opened-held : (s : List ℕ) (g : Held) → Opened s g → (c : Cursor) → itemsFrom s c ≡ itemsOf s (geometryView g) → Inside s c → heldBlocks (entriesFrom s c) < 2 ^ 64
+opened-held s g o c i h =
+    let p = opened-super s g o in
+    held-fits s c g (opened-walks s g o c i h) (good-bounded (length s) g (p .good) (p .short)) (rw i (judge-opens s (volumeOf s (geometryView g)) o .regions-sound))

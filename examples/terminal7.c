@@ -1,0 +1,35 @@
+/* Terminal 7's volume: formatted, a session made and read, deleted and reclaimed, and listed after each step. */
+#include "../include/sfs.h"
+
+#include <stdio.h>
+#include <stdlib.h>
+
+#define BYTES 65536
+
+static uint8_t volume[BYTES];
+static uint8_t text[SFS_LISTING_ROOM];
+
+static void done(const char *what, uint32_t refusal) {
+    printf("%s: %u\n", what, refusal);
+    if (refusal != SFS_OK)
+        exit(1);
+}
+
+static void listed(void) {
+    uint64_t length = sfs_listing(volume, BYTES, text, sizeof text);
+    fwrite(text, 1, (size_t)length, stdout);
+    putchar('\n');
+}
+
+int main(void) {
+    static const uint8_t name[] = "TERM7", session[] = "session", verified[] = "session/verified", yes[] = "yes";
+    done("format", sfs_format(volume, BYTES, 512, 2, name, sizeof name - 1, 0));
+    done("create session", sfs_create_directory(volume, BYTES, session, sizeof session - 1, 0x3C0000));
+    done("create session/verified", sfs_create_file(volume, BYTES, verified, sizeof verified - 1, yes, 3, -1));
+    listed();
+    done("delete session/verified", sfs_delete(volume, BYTES, verified, sizeof verified - 1, 0));
+    listed();
+    done("reclaim", sfs_reclaim(volume, BYTES, 0));
+    listed();
+    return 0;
+}

@@ -1,0 +1,153 @@
+/*
+ * sfs.h: a proved store for Simple File System 1.0 volumes.
+ *
+ * A volume is an image of 512 to 16,777,216 bytes that the caller lends for each call. Nothing is kept between calls, so
+ * calls on different images may run at the same time; calls on one image may not, if one of them writes.
+ *
+ * Every call takes any image and any arguments, and judges the image before anything else. Its refusal number is 0 on
+ * success. After a refusal every other number of the answer is 0, and no byte of the image or of a lent output has changed.
+ *
+ * Slices: a pointer and a length. The pointer of an empty slice may be NULL, any other may not. The slices of one call
+ * lie apart in memory; no call can check that.
+ *
+ * Names and paths are bytes, without a terminating zero. Stamps count 1/65536 seconds from 1970-01-01 UTC.
+ */
+#ifndef SFS_H
+#define SFS_H
+
+#include <stddef.h>
+#include <stdint.h>
+
+#ifdef __cplusplus
+extern "C" {
+#endif
+
+/* Sizes. */
+#define SFS_IMAGE_MIN 512u
+#define SFS_IMAGE_MAX 16777216u
+#define SFS_FORMAT_MIN 1024u      /* the shortest image that can be formatted */
+#define SFS_PATH_MAX 285u         /* of a path to create */
+#define SFS_VOLUME_NAME_MAX 51u
+#define SFS_SLOT_BYTES 64u
+#define SFS_INDEX_MAX 262144u
+#define SFS_LISTING_IMAGE_MAX 65536u
+#define SFS_LISTING_ROOM 131072u  /* enough for the listing of any image */
+
+/* Kinds of an entry. */
+#define SFS_DIRECTORY 0x11u
+#define SFS_FILE 0x12u
+
+/* Refusal numbers. The lowest that applies is given. */
+enum sfs_refusal {
+    SFS_OK = 0,
+    SFS_IMAGE_LENGTH = 1,      /* the image is too short or too long */
+    SFS_MAGIC = 2,             /* no super-block */
+    SFS_VERSION = 3,           /* version below 1.0 */
+    SFS_CHECKSUM = 4,          /* the super-block's checksum is wrong */
+    SFS_GEOMETRY = 5,          /* sizes that do not fit the image, or arguments of a format that do not */
+    SFS_INDEX = 6,             /* markers, runs, stray slots or names of the index */
+    SFS_REGIONS = 7,           /* a region out of bounds, or a block in two of them */
+    SFS_PATHS = 8,             /* a path repeated, or without its directory */
+    SFS_READ_ONLY = 9,         /* version above 1.0: the volume may only be read */
+    SFS_NAME = 10,             /* a path or name argument that is not allowed */
+    SFS_NOT_FOUND = 11,        /* no live entry has the path */
+    SFS_EXISTS = 12,           /* a live entry has the path already */
+    SFS_NO_DIRECTORY = 13,     /* the path's directory is not there */
+    SFS_NOT_EMPTY = 14,        /* the directory has live entries below it */
+    SFS_NO_SLOTS = 15,         /* no room in the index */
+    SFS_NO_BLOCKS = 16,        /* no free run of blocks is long enough */
+    SFS_NOT_A_FILE = 17,       /* a file was wanted */
+    SFS_OUTPUT_TOO_SHORT = 18  /* the lent output is too short */
+};
+
+/* The numbers of a volume. */
+struct sfs_volume {
+    uint32_t refusal;
+    uint32_t version;       /* 0x10 is 1.0 */
+    uint64_t total;         /* blocks */
+    uint64_t reserved;      /* blocks, the super-block's own among them */
+    uint64_t block_length;  /* bytes */
+    uint64_t data;          /* data area, in blocks */
+    uint64_t index;         /* index area, in bytes */
+    int64_t stamp;          /* when a size last changed */
+    int64_t volume_stamp;   /* when the volume was formatted */
+    uint64_t name_length;   /* bytes of the volume name */
+};
+
+/* The numbers of an entry. A directory has 0 for start, end and length. */
+struct sfs_entry {
+    uint32_t refusal;
+    uint32_t kind;    /* SFS_DIRECTORY or SFS_FILE */
+    uint64_t slot;    /* its first slot in the index */
+    uint64_t start;   /* first block of its region */
+    uint64_t end;     /* the block past it */
+    uint64_t length;  /* bytes */
+    int64_t stamp;
+};
+
+/* The same with the path's byte count; kind 0: no entry is left. */
+struct sfs_listed {
+    uint32_t refusal;
+    uint32_t kind;
+    uint64_t slot;
+    uint64_t start;
+    uint64_t end;
+    uint64_t length;
+    int64_t stamp;
+    uint64_t path_length;
+};
+
+/* What was read. */
+struct sfs_content {
+    uint32_t refusal;
+    uint64_t length;
+};
+
+/*
+ * Makes the image an empty volume. bytes_per_block is 256, 512, 1024, 2048 or 4096; reserved blocks cover at least the
+ * first 512 bytes. Writes the super-block's fields and the last 128 bytes, and nothing else. Refusals: 1, 5, 10.
+ */
+uint32_t sfs_format(uint8_t *image, size_t image_len, uint64_t bytes_per_block, uint64_t reserved,
+                    const uint8_t *name, size_t name_len, int64_t stamp);
+
+/* Gives the volume's numbers and puts its name at the start of out. Refusals: 1 to 8, 18. */
+struct sfs_volume sfs_open(const uint8_t *image, size_t image_len, uint8_t *out, size_t out_len);
+
+/* Gives the numbers of the live entry of a path. Refusals: 1 to 8, 10, 11. */
+struct sfs_entry sfs_find(const uint8_t *image, size_t image_len, const uint8_t *path, size_t path_len);
+
+/*
+ * Gives the live entry with the lowest first slot not below slot, and puts its path at the start of out. To list all,
+ * start with 0 and go on with the found slot + 1 until kind is 0. Refusals: 1 to 8, 18.
+ */
+struct sfs_listed sfs_list(const uint8_t *image, size_t image_len, uint64_t slot, uint8_t *out, size_t out_len);
+
+/* Puts the bytes of a file at the start of out. Refusals: 1 to 8, 10, 11, 17, 18. */
+struct sfs_content sfs_read(const uint8_t *image, size_t image_len, const uint8_t *path, size_t path_len,
+                            uint8_t *out, size_t out_len);
+
+/* Creates a file with its bytes. Refusals: 1 to 10, 12, 13, 15, 16. */
+uint32_t sfs_create_file(uint8_t *image, size_t image_len, const uint8_t *path, size_t path_len,
+                         const uint8_t *bytes, size_t bytes_len, int64_t stamp);
+
+/* Creates a directory. Refusals: 1 to 10, 12, 13, 15. */
+uint32_t sfs_create_directory(uint8_t *image, size_t image_len, const uint8_t *path, size_t path_len, int64_t stamp);
+
+/* Deletes a file or an empty directory; its slots and blocks stay held until a reclaim. Refusals: 1 to 11, 14. */
+uint32_t sfs_delete(uint8_t *image, size_t image_len, const uint8_t *path, size_t path_len, int64_t stamp);
+
+/* Frees what deleted entries hold. Refusals: 1 to 9. */
+uint32_t sfs_reclaim(uint8_t *image, size_t image_len, int64_t stamp);
+
+/*
+ * Writes the listing program's text of an image of up to SFS_LISTING_IMAGE_MAX bytes at the start of out, which has
+ * SFS_LISTING_ROOM bytes at least, and gives its length; 0 if out is shorter than that. A longer image has the text
+ * "refused 1\n".
+ */
+uint64_t sfs_listing(const uint8_t *image, size_t image_len, uint8_t *out, size_t out_len);
+
+#ifdef __cplusplus
+}
+#endif
+
+#endif
