@@ -4,11 +4,11 @@ use mathlib.Core.Path.{_≡_, refl, sym, ap, _∙_}
 use mathlib.Core.Bool.{Bool, true, false}
 use mathlib.Core.List.{List, [], _∷_, _++_}
 use native.Mathlib.Omega.{arith}
-use lib.ListN.{length, length-append}
+use lib.ListN.{length, take, length-append, length-take}
 use Rattle.rules.specs.Lists.{pick, only, keepIf}
 use Rattle.rules.specs.Lists.Laws.{pick-true, pick-false}
 use Rattle.rules.specs.Fields.{splice, signedOf}
-use Rattle.rules.specs.Fields.Laws.{splice-nil, splice-splice}
+use Rattle.rules.specs.Fields.Laws.{splice-nil, splice-splice, length-splice}
 use Rattle.rules.specs.Index.{Entry, fileType, liveType, volumeName}
 use Rattle.rules.specs.Paths.{isLive}
 use Rattle.rules.specs.Dates.{decimal, momentOf, momentText}
@@ -91,6 +91,12 @@ module _ (es : List Entry) where
 -- ---- the same bytes by another name
 pub wrote-as : (s : List ℕ) (at : ℕ) (xs ys t : List ℕ) (end : ℕ) → xs ≡ ys → Wrote s at xs t end → Wrote s at ys t end
 wrote-as s at xs ys t end e w = rw e at w
+
+-- what was written from the start on can be lent
+pub wrote-counts : (s xs t : List ℕ) (end : ℕ) → length xs ≤ length s → Wrote s 0 xs t end → (end ≤ length t) × (end ≡ length (take end t))
+wrote-counts s xs t end h (e, f) =
+    let l : length t ≡ length s = ap length e ∙ length-splice s 0 xs (omega arith) in
+    (omega arith, omega (arith, length-take end t))
 
 -- ---- writing goes on: ys are still to be written into t from `at` on, and then s has xs from o on
 abbrev pub Left : List ℕ → ℕ → List ℕ → List ℕ → ℕ → List ℕ → Type 0

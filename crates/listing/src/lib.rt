@@ -14,7 +14,7 @@ ghost use mathlib.Core.Path.{_≡_};
 ghost use mathlib.Core.Bool.{true};
 ghost use mathlib.Core.List.{List, [], _∷_, _++_};
 ghost use Prim.Native.Nat.{ℕ, _+_, _^_, _≤_, _<_};
-ghost use lib.ListN.{length};
+ghost use lib.ListN.{length, take};
 ghost use Rattle.rules.specs.Lists.{only};
 ghost use Rattle.rules.specs.Dates.{decimal};
 ghost use Rattle.rules.specs.Index.{runType};
@@ -183,11 +183,11 @@ fn put_volume(img: &[u8], g: Geometry, out: &mut [u8]) -> usize
     put_entries(img, from, out, end)
 }
 
-// What the program writes for an image; the image is judged once.
+// What the program writes for an image, which is judged once. The second promise lets a caller lend the text on.
 pub fn listing(img: &[u8], out: &mut [u8]) -> usize
     requires { ⌜ 131_072 ≤ length (now out) ⌝ }
     ensures { λ r. ⌜ Wrote (now (out .entry)) 0 (listingOf (now (img .entry))) (now (out .exit)) r ⌝ }
-    ensures short { λ r. ⌜ r ≤ 131_000 ⌝ }
+    ensures lent { λ r. ⌜ (r ≤ length (now (out .exit))) × (r ≡ length (take r (now (out .exit)))) ⌝ }
 {
     if 65_536 < img.len() {
         return put_refused(out, 1);

@@ -6,7 +6,7 @@ use lib.ListN.{length}
 use Rattle.rules.specs.Listing.{listingOf, refusedLine}
 use Rattle.judging.specs.View.{refused-says, good-says}
 use Rattle.listing_bound.proofs.Bound.{listing-fits}
-use Rattle.listing.specs.Lines.{wrote-as}
+use Rattle.listing.specs.Lines.{wrote-as, wrote-counts}
 use Rattle.listing.specs.Volume.{openedText, listing-long, listing-refused, listing-opened}
 use borrow.Author.Needs.{needs}
 use Rattle.listing.proofs.listing.Statement.{statement}
@@ -34,7 +34,8 @@ same-length c = search needs
 
 returns : tie.Need-returns
 returns c = let t = c .before .before .before .before in
-    (wrote-as _ _ _ _ _ _ (sym (long t)) (c .before .before .put-refused .ensures), omega (arith, ap length (long t), fits (t .before .before)))
+    let w = wrote-as _ _ _ _ _ _ (sym (long t)) (c .before .before .put-refused .ensures) in
+    (w, wrote-counts _ _ _ _ (omega (arith, fits (t .before .before))) w)
 
 judge-requires : tie.Need-judge-requires
 judge-requires c κs = tt
@@ -58,14 +59,16 @@ same-length-2 c = search needs
 
 returns-2 : tie.Need-returns-2
 returns-2 c = let r = c .before .before .before .before .before in
-    (wrote-as _ _ _ _ _ _ (sym (refused r)) (c .before .before .put-refused2 .ensures), omega (arith, ap length (refused r), fits (r .before .before .before .before .before)))
+    let w = wrote-as _ _ _ _ _ _ (sym (refused r)) (c .before .before .put-refused2 .ensures) in
+    (w, wrote-counts _ _ _ _ (omega (arith, fits (r .before .before .before .before .before))) w)
 
 same-length-3 : tie.Need-same-length-3
 same-length-3 c = search needs
 
 returns-3 : tie.Need-returns-3
 returns-3 c = let r = c .before .before .before .before .before in
-    (wrote-as _ _ _ _ _ _ (sym (opened r)) (c .before .before .put-volume .ensures), omega (arith, ap length (opened r), fits (r .before .before .before .before .before)))
+    let w = wrote-as _ _ _ _ _ _ (sym (opened r)) (c .before .before .put-volume .ensures) in
+    (w, wrote-counts _ _ _ _ (omega (arith, fits (r .before .before .before .before .before))) w)
 
 pub listing-spec : {M : Type 1} → statement M
 listing-spec =
