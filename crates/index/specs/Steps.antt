@@ -41,7 +41,7 @@ pub record Step (s : List ℕ) (c : Cursor) (h : Head) (d : Cursor) : Type 0 whe
   pub walks : Walks s d
   pub less : d .left < c .left
   pub head : HeadIn s h
-  pub place : h .at .0 + 64 * c .slot .0 ≡ c .at .0 + 64 * h .slot .0  -- so far apart in bytes as in slots
+  pub place : h .at .0 + 64 * c .slot .0 ≡ c .at .0 + 64 * h .slot .0  -- as far apart in bytes as in slots
   pub after : d .at .0 ≡ h .at .0 + 64 * h .slots
   pub number : d .slot .0 ≡ h .slot .0 + h .slots
 
