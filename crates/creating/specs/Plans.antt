@@ -5,8 +5,8 @@ use mathlib.Core.List.{List}
 use lib.IntN.{ℤ}
 use Rattle.rules.specs.Writing.{New, createOf}
 use Rattle.rules.specs.Writing.Laws.{refusedWrite, wrote}
-use Rattle.sites.specs.Site.{siteImage, SiteIn}
-use Rattle.sites.specs.declared.Site.{Site}
+use Rattle.placing.specs.Site.{siteImage, SiteIn}
+use Rattle.placing.specs.declared.Site.{Site}
 use Rattle.planning.specs.Planned.{Planned}
 use Rattle.planning.specs.declared.Plan.{Plan}
 use Rattle.planning.specs.declared.Plan.the-variants.{Refused, At}

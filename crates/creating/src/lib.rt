@@ -5,7 +5,7 @@ ghost use mathlib.Core.Path.{_≡_};
 ghost use Rattle.rules.specs.Fields.{signedOf};
 ghost use Rattle.rules.specs.Writing.{createOf};
 ghost use Rattle.rules.specs.Writing.Laws.{writtenAs};
-ghost use Rattle.sites.specs.Site.{newOf};
+ghost use Rattle.placing.specs.Site.{newOf};
 
 // A file with these bytes, or a directory, whose bytes are not looked at.
 pub fn create(img: &mut [u8], file: bool, path: &[u8], bytes: &[u8], stamp: u64) -> u32

@@ -6,7 +6,7 @@ use Rattle.rules.specs.Refusals.{entries}
 use Rattle.rules.specs.Refusals.Laws.{judge-opens}
 use Rattle.rules.specs.History.{History, nothing, nameOfKept, ReadsBack, Holds, Demand3}
 use Rattle.after.specs.After.{AfterFormat, AfterCreate, AfterDelete, AfterReclaim}
-use Rattle.list_laws.proofs.Perms.{perm-all, perm-map, perm-only, perm-sum}
+use Rattle.laws.proofs.Lists.Perms.{perm-all, perm-map, perm-only, perm-sum}
 use Rattle.demand3.proofs.Walked.{settled-entries}
 use Rattle.demand3.proofs.Seen.{seen-blocks, files-apart, seen-names}
 use Rattle.demand3.proofs.ReadBack.{reads-back}

@@ -12,8 +12,8 @@ use Rattle.rules.specs.Refusals.{accepted, Volume, judge}
 use Rattle.rules.specs.Writing.{New, formatOf, createOf, deleteOf, reclaimOf}
 use Rattle.rules.specs.History.{Call, format, openVolume, find, list, read, create, delete, reclaim, passed, step, marked, History, fed, feed, run, told}
 use Rattle.after.specs.After.{sight, AfterFormat, AfterCreate, AfterDelete, AfterReclaim}
-use Rattle.list_laws.proofs.Parts.{sum-map, sum-parts}
-use Rattle.list_laws.proofs.Perms.{perm-map, perm-only}
+use Rattle.laws.proofs.Lists.Parts.{sum-map, sum-parts}
+use Rattle.laws.proofs.Lists.Perms.{perm-map, perm-only}
 use Rattle.demand3.proofs.Calls.{open-image, find-image, list-image, read-image, format-refused, create-refused, delete-refused, reclaim-refused}
 
 -- what the image and its history have in common

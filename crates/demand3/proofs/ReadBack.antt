@@ -23,9 +23,9 @@ use Rattle.rules.specs.Outcome.{done, conclude, onVolume}
 use Rattle.rules.specs.Reading.{fileBytes, readOf}
 use Rattle.rules.specs.History.{ReadsBack}
 use Rattle.after.specs.After.{isNamed, seen, sight}
-use Rattle.list_laws.proofs.Every.{all-placed, all-and, all-weaken, all-map, all-only}
-use Rattle.entry_laws.proofs.Regions.{sound-says, FileRegion, file-region, region-bytes}
-use Rattle.entry_laws.proofs.Paths.{lookup-live}
+use Rattle.laws.proofs.Lists.Every.{all-placed, all-and, all-weaken, all-map, all-only}
+use Rattle.laws.proofs.Entries.Regions.{sound-says, FileRegion, file-region, region-bytes}
+use Rattle.laws.proofs.Entries.Paths.{lookup-live}
 use Rattle.demand3.proofs.Walked.{Named, named-entries}
 use Rattle.demand3.proofs.Seen.{live-kind}
 

@@ -16,10 +16,10 @@ use Rattle.rules.specs.Paths.{isLive}
 use Rattle.rules.specs.Refusals.{Volume, entries}
 use Rattle.rules.specs.History.{NoShared, nameOfEntry, nameOfKept}
 use Rattle.after.specs.After.{isNamed, seen, sight}
-use Rattle.list_laws.proofs.Parts.{sum-map}
-use Rattle.list_laws.proofs.Every.{pairs-weaken, pairs-only}
-use Rattle.entry_laws.proofs.EntryKinds.{live-cases}
-use Rattle.entry_laws.proofs.Regions.{Settled, sound-says}
+use Rattle.laws.proofs.Lists.Parts.{sum-map}
+use Rattle.laws.proofs.Lists.Every.{pairs-weaken, pairs-only}
+use Rattle.laws.proofs.Entries.EntryKinds.{live-cases}
+use Rattle.laws.proofs.Entries.Regions.{Settled, sound-says}
 
 -- ---- kinds
 file-named : (t : ℕ) → fileType t ≡ true → runType t ≡ true

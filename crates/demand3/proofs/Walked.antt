@@ -10,8 +10,8 @@ use Rattle.rules.specs.Names.{pathGood}
 use Rattle.rules.specs.Index.{Entry, runType, directoryType, fileType, entryAt, unusableAt, nameField, nameGood}
 use Rattle.rules.specs.Refusals.{Volume, entries}
 use Rattle.rules.specs.Refusals.Laws.{Opens}
-use Rattle.entry_laws.proofs.Regions.{Settled}
-use Rattle.entry_laws.proofs.Walked.{all-entries, settled-items}
+use Rattle.laws.proofs.Entries.Regions.{Settled}
+use Rattle.laws.proofs.Entries.Walked.{all-entries, settled-items}
 
 -- an entry with a name has a good path
 abbrev pub Named : Entry → Type 0

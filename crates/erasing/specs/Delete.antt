@@ -22,10 +22,10 @@ use Rattle.geometry.specs.View.{geometryView}
 use Rattle.geometry.specs.declared.Geometry.{Geometry as Held}
 use Rattle.units.specs.declared.Offset.{Offset}
 use Rattle.super_block.specs.Written.{byte-alone, stamp-bits}
-use Rattle.index_laws.proofs.Items.{slotsIn}
-use Rattle.index_laws.proofs.Places.{Found, first-split, slot-there, place-within}
-use Rattle.image_laws.proofs.Areas.{slot-on, inner-end}
-use Rattle.image_laws.proofs.Indexes.{items-walk}
+use Rattle.laws.proofs.Index.Items.{slotsIn}
+use Rattle.laws.proofs.Index.Places.{Found, first-split, slot-there, place-within}
+use Rattle.laws.proofs.Images.Areas.{slot-on, inner-end}
+use Rattle.laws.proofs.Images.Indexes.{items-walk}
 use Rattle.judging.specs.View.{Opened, volumeOf, opened-super}
 use Rattle.erasing.specs.declared.Doom.{Doom}
 use Rattle.erasing.specs.declared.Doom.the-variants.{Refused, At}

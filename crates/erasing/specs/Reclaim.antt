@@ -24,11 +24,11 @@ use Rattle.index.specs.declared.Head.{Head}
 use Rattle.index.specs.View.{itemsFrom, headView}
 use Rattle.index.specs.Steps.{Walks, HeadIn, Step, entriesFrom}
 use Rattle.super_block.specs.Written.{join}
-use Rattle.index_laws.proofs.ListFacts.{drop-splice-after}
-use Rattle.index_laws.proofs.Unused.{length-unusedBytes}
+use Rattle.laws.proofs.Index.ListFacts.{drop-splice-after}
+use Rattle.laws.proofs.Index.Unused.{length-unusedBytes}
 use Rattle.judging.specs.View.{volumeOf}
-use Rattle.image_laws.proofs.Areas.{index-start}
-use Rattle.image_laws.proofs.Sizes.{restamp-index, sizes-long}
+use Rattle.laws.proofs.Images.Areas.{index-start}
+use Rattle.laws.proofs.Images.Sizes.{restamp-index, sizes-long}
 
 -- ---- unused slots, one at a time
 one-slot : length (padded (typeUnused ∷ []) 64) ≡ 64

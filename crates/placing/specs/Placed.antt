@@ -15,8 +15,8 @@ use Rattle.rules.specs.Index.{Entry, nameAt, slotAt, runBytes, typeFile, typeDi
 use Rattle.rules.specs.Index.Laws.{continuing-new, continuing-room}
 use Rattle.rules.specs.Writing.{New, newFile, newDirectory, kindOf, bytesOf, newEntry, putMarker, created}
 use Rattle.geometry.specs.View.{geometryView}
-use Rattle.sites.specs.declared.Site.{Site}
-use Rattle.sites.specs.Site.{newOf, siteEntry, siteImage, SiteIn}
+use Rattle.placing.specs.declared.Site.{Site}
+use Rattle.placing.specs.Site.{newOf, siteEntry, siteImage, SiteIn}
 
 -- ---- the blocks
 -- the region lies in an image of n bytes and holds so many

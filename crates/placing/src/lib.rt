@@ -2,7 +2,8 @@
 
 use geometry::Geometry;
 use index::Head;
-use sites::Site;
+use units::Block;
+use units::Slot;
 ghost use mathlib.Core.Path.{_≡_};
 ghost use mathlib.Core.List.{[], _∷_, _++_};
 ghost use Prim.Native.Nat.{_+_, _-_, _*_, _≤_};
@@ -12,9 +13,20 @@ ghost use Rattle.rules.specs.Fields.{splice, leBytes, signedOf, stampBytes};
 ghost use Rattle.rules.specs.Index.{fileType, nameAt, markerBytes, runBytes};
 ghost use Rattle.rules.specs.Writing.{putMarker};
 ghost use Rattle.geometry.specs.View.{geometryView};
-ghost use Rattle.sites.specs.Site.{newOf, siteImage, SiteIn};
+ghost use Rattle.placing.specs.Site.{newOf, siteImage, SiteIn};
 ghost use Rattle.placing.specs.Run.{runEntry};
 ghost use Rattle.placing.specs.Placed.{BlocksIn, Room, blocksImage, roomImage};
+
+// Where a create puts what it makes: the geometry before and after, the run's first slot and its slots (in the index after any growth),
+// and the file's region.
+pub struct Site {
+    pub old: Geometry,
+    pub new: Geometry,
+    pub slot: Slot,
+    pub slots: u64,
+    pub start: Block,
+    pub end: Block,
+}
 
 // A run's bytes before a file's fields: kind, count and stamp.
 const HEAD: usize = 10;

@@ -13,7 +13,7 @@ use Rattle.rules.specs.Index.{Entry, itemsOf}
 use Rattle.rules.specs.Regions.{lowestFree}
 use Rattle.rules.specs.Refusals.{Volume}
 use Rattle.rules.specs.Writing.{Place, mayGrow, grownPlace, placeFrom, placeRun, placeFile, lowestUnused}
-use Rattle.entry_laws.proofs.Creating.{block-pos}
+use Rattle.laws.proofs.Entries.Creating.{block-pos}
 use Rattle.geometry.specs.View.{geometryView}
 use Rattle.geometry.specs.declared.Geometry.{Geometry as Held}
 use Rattle.regions.specs.Bounds.{Bounded}

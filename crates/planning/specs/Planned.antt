@@ -23,10 +23,10 @@ use Rattle.rules.specs.Refusals.{refused, Volume, entries, judge}
 use Rattle.rules.specs.Refusals.Laws.{Opens, judge-opens}
 use Rattle.rules.specs.Writing.{New, newFile, newDirectory, kindOf, bytesOf, nearestLive, Place, placeRun, placeFile, newEntry, created, createOf}
 use Rattle.rules.specs.Writing.Laws.{refusedWrite, wrote, create-refused, create-later, create-name, create-live, create-orphan, create-slots, create-blocks, create-done}
-use Rattle.entry_laws.proofs.Creating.{block-pos, place-fits}
-use Rattle.after_create.proofs.Inverted.{newBlocks, newSlots, newGeometry, Placed, run-place}
-use Rattle.after_create.proofs.Added.{Inside, place-inside}
-use Rattle.after_create.proofs.Sizes.{Grown, place-grown, Sizes, new-sizes, same-length}
+use Rattle.laws.proofs.Entries.Creating.{block-pos, place-fits}
+use Rattle.after.proofs.Create.Inverted.{newBlocks, newSlots, newGeometry, Placed, run-place}
+use Rattle.after.proofs.Create.Added.{Inside, place-inside}
+use Rattle.after.proofs.Create.Sizes.{Grown, place-grown, Sizes, new-sizes, same-length}
 use Rattle.geometry.specs.View.{geometryView}
 use Rattle.geometry.specs.declared.Geometry.{Geometry as Held}
 use Rattle.regions.specs.Bounds.{good-bounded}
@@ -36,8 +36,8 @@ use Rattle.index.specs.Steps.{entriesFrom}
 use Rattle.judging.specs.View.{Opened, volumeOf}
 use Rattle.paths.specs.View.{Searched, isFound, found-view}
 use Rattle.paths.specs.declared.Search.{Search}
-use Rattle.sites.specs.Site.{siteImage, SiteIn, newOf}
-use Rattle.sites.specs.declared.Site.{Site}
+use Rattle.placing.specs.Site.{siteImage, SiteIn, newOf}
+use Rattle.placing.specs.declared.Site.{Site}
 use Rattle.planning.specs.Places.{Growable}
 use Rattle.planning.specs.declared.Plan.{Plan}
 use Rattle.planning.specs.declared.Plan.the-variants.{Refused, At}

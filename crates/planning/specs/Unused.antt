@@ -12,7 +12,7 @@ use Rattle.rules.specs.Index.{Entry, Item, unused, entry}
 use Rattle.rules.specs.Index.Walk.{walkAll, walk-none, walk-unused, walk-entry}
 use Rattle.rules.specs.Index.Items.{headOf, entryType, type-drop, sound-entry, sound-unused}
 use Rattle.rules.specs.Writing.{startsUnused, itemSlot, lowestUnused}
-use Rattle.index_laws.proofs.Unused.{unusedFrom}
+use Rattle.laws.proofs.Index.Unused.{unusedFrom}
 use Rattle.index.specs.declared.Head.{Head}
 use Rattle.index.specs.View.{itemsFrom, headView}
 use Rattle.index.specs.Steps.{Walks, cursorAt, slots-is, step-found}

@@ -4,7 +4,7 @@ use free_runs::Free;
 use geometry::Geometry;
 use index::Cursor;
 use judging::Judged;
-use sites::Site;
+use placing::Site;
 use units::Block;
 use units::Slot;
 ghost use mathlib.Core.Path.{_≡_};
@@ -23,7 +23,7 @@ ghost use Rattle.judging.specs.View.{Opened, volumeOf};
 ghost use Rattle.planning.specs.Unused.{unusedView};
 ghost use Rattle.planning.specs.Places.{placeView, Begins, Growable};
 ghost use Rattle.planning.specs.Planned.{Planned, Clear};
-ghost use Rattle.sites.specs.Site.{newOf};
+ghost use Rattle.placing.specs.Site.{newOf};
 
 // ---- a place for the run
 

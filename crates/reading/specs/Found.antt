@@ -22,8 +22,8 @@ use Rattle.rules.specs.Refusals.Laws.{need-true, need-false, found-some, judge-
 use Rattle.rules.specs.Outcome.{Outcome, done, conclude, noneListed, numbersOf, ListedNumbers}
 use Rattle.rules.specs.Outcome.Laws.{denied, conclude-refused, conclude-accepted, volume-judged}
 use Rattle.rules.specs.Reading.{fileBytes, listed, readOf, listOf}
-use Rattle.list_laws.proofs.Every.{all-first, first-says, First}
-use Rattle.entry_laws.proofs.Regions.{sound-says, file-region, FileRegion, region-bytes}
+use Rattle.laws.proofs.Lists.Every.{all-first, first-says, First}
+use Rattle.laws.proofs.Entries.Regions.{sound-says, file-region, FileRegion, region-bytes}
 use Rattle.judging.specs.View.{Opened, volumeOf}
 use Rattle.reading.specs.declared.Listed.{Listed}
 use Rattle.reading.specs.View.{listedAnswer, listedView}

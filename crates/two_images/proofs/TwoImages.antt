@@ -23,8 +23,8 @@ use Rattle.rules.specs.Refusals.Laws.{judge-opens}
 use Rattle.rules.specs.Outcome.{Outcome, done, conclude, onVolume, noEntry, numbersOf, noneListed}
 use Rattle.rules.specs.Reading.{findOf, readOf, listOf, listed, fileBytes}
 use Rattle.rules.specs.History.{Agree, SameAnswer, TwoImages}
-use Rattle.list_laws.proofs.Every.{only-says, first-says, all-first}
-use Rattle.entry_laws.proofs.Regions.{sound-says, file-region}
+use Rattle.laws.proofs.Lists.Every.{only-says, first-says, all-first}
+use Rattle.laws.proofs.Entries.Regions.{sound-says, file-region}
 use Rattle.two_images.proofs.Seen.{items-same}
 
 -- ---- what two images were told: alike, where the tests are the same and what is left at the end is

@@ -23,9 +23,9 @@ use Rattle.rules.specs.Paths.{isLive}
 use Rattle.rules.specs.Refusals.{accepted, Volume, entries, judge}
 use Rattle.rules.specs.Refusals.Laws.{Opens, judge-opens}
 use Rattle.rules.specs.History.{SameAnswers}
-use Rattle.list_laws.proofs.Every.{not-both, all-weaken, all-and, all-join, all-at, pairs-split, only-holds}
-use Rattle.entry_laws.proofs.Regions.{sound-says, FileRegion, file-region, region-bytes}
-use Rattle.index_laws.proofs.ListFacts.{drop-splice-after}
+use Rattle.laws.proofs.Lists.Every.{not-both, all-weaken, all-and, all-join, all-at, pairs-split, only-holds}
+use Rattle.laws.proofs.Entries.Regions.{sound-says, FileRegion, file-region, region-bytes}
+use Rattle.laws.proofs.Index.ListFacts.{drop-splice-after}
 use Rattle.two_images.proofs.Reopens.{reopens}
 use Rattle.two_images.proofs.TwoImages.{liveFile, SameBlocks, two-images}
 

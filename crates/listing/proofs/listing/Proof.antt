@@ -5,7 +5,7 @@ use denote.Ref.{now}
 use lib.ListN.{length}
 use Rattle.rules.specs.Listing.{listingOf, refusedLine}
 use Rattle.judging.specs.View.{refused-says, good-says}
-use Rattle.listing_bound.proofs.Bound.{listing-fits}
+use Rattle.laws.proofs.Listing.Bound.{listing-fits}
 use Rattle.listing.specs.Lines.{wrote-as, wrote-counts}
 use Rattle.listing.specs.Volume.{openedText, listing-long, listing-refused, listing-opened}
 use borrow.Author.Needs.{needs}

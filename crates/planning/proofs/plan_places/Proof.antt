@@ -9,11 +9,11 @@ use Rattle.rules.specs.Fields.{signedOf}
 use Rattle.rules.specs.Index.{continuing}
 use Rattle.rules.specs.Writing.{placeRun, placeFile}
 use Rattle.rules.specs.Refusals.{entries}
-use Rattle.after_create.proofs.Inverted.{newSlots, newBlocks}
+use Rattle.after.proofs.Create.Inverted.{newSlots, newBlocks}
 use Rattle.geometry.specs.View.{geometryView}
 use Rattle.judging.specs.View.{volumeOf, opened-super, opened-walks, opened-entries}
 use Rattle.planning.specs.Places.{run-says, file-says}
-use Rattle.sites.specs.Site.{newOf}
+use Rattle.placing.specs.Site.{newOf}
 use Rattle.planning.specs.Planned.{few-slots, run-grown, end-fits, planned-slots, planned-blocks, planned-at}
 use borrow.Author.Needs.{needs}
 use Rattle.planning.proofs.plan_places.Statement.{statement}

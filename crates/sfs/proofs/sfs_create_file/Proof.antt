@@ -1,7 +1,7 @@
 use mathlib.Core.Path.{ap, _∙_}
 use denote.Ref.{now}
 use Rattle.rules.specs.Writing.{createOf, newFile}
-use Rattle.sites.specs.Site.{newOf}
+use Rattle.placing.specs.Site.{newOf}
 use Rattle.sfs.proofs.Stamps.{stamp-is}
 use borrow.Author.Needs.{needs}
 use Rattle.sfs.proofs.sfs_create_file.Statement.{statement}

@@ -1,0 +1,128 @@
+-- What an accepted create has passed, and where it places the run. Assumes nothing.
+use Prim.Native.Nat.{ℕ, _+_, _*_, _≤_, _<_}
+use mathlib.Core.Path.{_≡_, refl, sym, ap, _∙_}
+use mathlib.Core.Bool.{Bool, true, false, not}
+use mathlib.Core.List.{List, []}
+use mathlib.Core.Option.{Option, none, some}
+use mathlib.Core.Logic.{_⊎_, inl, inr}
+use native.Mathlib.Omega.{arith}
+use lib.ListN.{length}
+use lib.Dec.{leb}
+use lib.IntN.{ℤ}
+use borrow.Author.Tests.{leb-true}
+use Rattle.rules.specs.Lists.{pick, isSome}
+use Rattle.rules.specs.Lists.Laws.{clash, and-true}
+use Rattle.rules.specs.SuperBlock.{Geometry, blockLength, ceilingBlock, dataEnd, growIndex, extendData, restamp}
+use Rattle.rules.specs.Names.{newPathGood, leading}
+use Rattle.rules.specs.Index.{continuing, slotBytes}
+use Rattle.rules.specs.Regions.{blocksNeeded}
+use Rattle.rules.specs.Paths.{lookup}
+use Rattle.rules.specs.Refusals.{Verdict, accepted, need, needFound, Volume, entries, judge}
+use Rattle.rules.specs.Refusals.Laws.{need-true, found-some, then-next}
+use Rattle.rules.specs.Outcome.{done, conclude, onVolume}
+use Rattle.rules.specs.Writing.{Written, New, kindOf, bytesOf, nearestLive, lowestUnused, Place, mayGrow, grownPlace, placeFrom, placeRun, placeFile, newEntry, created, createOf}
+use Rattle.laws.proofs.Index.ListFacts.{some-same, none-some}
+
+-- ---- the chain
+-- a verdict that refuses nothing
+abbrev Passes : List ℕ → Verdict Written → Type 0
+Passes s w = conclude tt s [] w .refusal ≡ 0
+
+need-passes : (s : List ℕ) (b : Bool) (n : ℕ) (w : Verdict Written) → 0 < n → Passes s (need b n w) → (b ≡ true) × Passes s w
+unfolding need conclude
+need-passes s true n w p e = (refl, e)
+need-passes s false n w p e = absurd (omega arith)
+
+found-passes : {A : Type 0} (s : List ℕ) (o : Option A) (n : ℕ) (next : A → Verdict Written) → 0 < n → Passes s (needFound o n next)
+    → (x : A) × (o ≡ some x) × Passes s (next x)
+unfolding needFound conclude
+found-passes s none n next p e = absurd (omega arith)
+found-passes s (some x) n next p e = (x, refl, e)
+
+not-some : {A : Type 0} (o : Option A) → not (isSome o) ≡ true → o ≡ none
+unfolding isSome
+not-some none e = refl
+not-some (some x) e = clash (sym e)
+
+-- ---- what it writes
+-- the blocks of the file, and the slots of the run
+abbrev pub newBlocks : Geometry → New → ℕ
+newBlocks g new = blocksNeeded (blockLength g) (length (bytesOf new))
+
+abbrev pub newSlots : New → List ℕ → ℕ
+newSlots new path = 1 + continuing (kindOf new) (length path)
+
+-- the geometry after it, h the one after any growth of the index
+abbrev pub newGeometry : Geometry → Geometry → ℕ → ℤ → Geometry
+newGeometry g h end stamp = restamp g (extendData h end) stamp
+
+pub record Passed (s : List ℕ) (v : Volume) (new : New) (path : List ℕ) (stamp : ℤ) : Type 0 where
+  pub place : Place
+  pub start : ℕ
+  pub path-good : newPathGood path ≡ true
+  pub path-new : lookup path (entries v) ≡ none
+  pub nearest : nearestLive (entries v) (leading path) ≡ true
+  pub run-placed : placeRun (length s) v (newSlots new path) ≡ some place
+  pub file-placed : placeFile (length s) (place .geometry) (entries v) (newBlocks (v .geometry) new) ≡ some start
+  pub image-is :
+      createOf s new path stamp .image
+      ≡ created s (v .geometry) (newGeometry (v .geometry) (place .geometry) (start + newBlocks (v .geometry) new) stamp)
+      (newEntry new path stamp (place .slot) start (newBlocks (v .geometry) new)) (bytesOf new)
+
+pub create-passed : (s : List ℕ) (v : Volume) (new : New) (path : List ℕ) (stamp : ℤ) → judge s ≡ accepted v → createOf s new path stamp .refusal ≡ 0
+    → Passed s v new path stamp
+unfolding createOf onVolume newEntry conclude done
+create-passed s v new path stamp o e =
+    let w = ap (conclude tt s []) (then-next _ o) in
+    let p₁ = need-passes s _ 9 _ (omega arith) (sym (ap (λ (x : Written). x .refusal) w) ∙ e) in
+    let p₂ = need-passes s _ 10 _ (omega arith) (p₁ .1) in
+    let p₃ = need-passes s _ 12 _ (omega arith) (p₂ .1) in
+    let p₄ = need-passes s _ 13 _ (omega arith) (p₃ .1) in
+    let p₅ = found-passes s _ 15 _ (omega arith) (p₄ .1) in
+    let p₆ = found-passes s _ 16 _ (omega arith) (p₅ .2) in
+    let c = need-true 9 _ (p₁ .0) ∙ need-true 10 _ (p₂ .0) ∙ need-true 12 _ (p₃ .0) ∙ need-true 13 _ (p₄ .0) ∙ found-some 15 _ (p₅ .1) ∙ found-some 16 _ (p₆ .1) in
+    record {
+      place = p₅ .0;
+      start = p₆ .0;
+      path-good = p₂ .0;
+      path-new = not-some _ (p₃ .0);
+      nearest = p₄ .0;
+      run-placed = p₅ .1;
+      file-placed = p₆ .1;
+      image-is = ap (λ (x : Written). x .image) (w ∙ ap (conclude tt s []) c);
+    }
+
+-- ---- where the run goes
+-- to unused slots of the index as it is
+pub record AtUnused (v : Volume) (slots : ℕ) (p : Place) : Type 0 where
+  pub found : lowestUnused slots (v .items) ≡ some (p .slot)
+  pub geometry-is : p .geometry ≡ v .geometry
+
+-- to the front of the index, which grows by it
+pub record AtFront (n : ℕ) (v : Volume) (slots : ℕ) (p : Place) : Type 0 where
+  pub slot-is : p .slot ≡ 1
+  pub geometry-is : p .geometry ≡ growIndex (v .geometry) (slotBytes * slots)
+  pub index-high : p .geometry .indexBytes ≤ 262_144
+  pub data-fits : dataEnd (p .geometry) ≤ ceilingBlock n (p .geometry)
+
+abbrev pub Placed : ℕ → Volume → ℕ → Place → Type 0
+Placed n v slots p = AtUnused v slots p ⊎ AtFront n v slots p
+
+grown-by : (n : ℕ) (v : Volume) (slots : ℕ) (p : Place) (h : Geometry) → h ≡ growIndex (v .geometry) (slotBytes * slots) → (b : Bool) → mayGrow n h ≡ b
+    → pick b (some (record { slot = 1; geometry = h })) none ≡ some p → AtFront n v slots p
+unfolding pick mayGrow
+grown-by n v slots p h g false e q = none-some p q
+grown-by n v slots p h g true e q =
+    let i : record { slot = 1; geometry = h } ≡ p = some-same _ p q in
+    let m = and-true (leb (h .indexBytes) 262_144) (leb (dataEnd h) (ceilingBlock n h)) e in
+    rw (← i) (record { slot-is = refl; geometry-is = g; index-high = leb-true (h .indexBytes) 262_144 (m .0); data-fits = leb-true (dataEnd h) (ceilingBlock n h) (m .1) })
+
+pub run-place : (n : ℕ) (v : Volume) (slots : ℕ) (p : Place) → placeRun n v slots ≡ some p → Placed n v slots p
+unfolding placeRun placeFrom grownPlace
+run-place n v slots p e = go (lowestUnused slots (v .items)) refl e
+  where
+    go : (o : Option ℕ) → lowestUnused slots (v .items) ≡ o → placeFrom n (v .geometry) slots o ≡ some p → Placed n v slots p
+    go none l q = inr (grown-by n v slots p (growIndex (v .geometry) (slotBytes * slots)) refl (mayGrow n (growIndex (v .geometry) (slotBytes * slots))) refl q)
+    go (some k) l q =
+        let i : record { slot = k; geometry = v .geometry } ≡ p = some-same _ p q in
+        inl (rw (← i) (record { found = l; geometry-is = refl }))

@@ -1,0 +1,106 @@
+-- AN ACCEPTED FORMAT leaves an image that opens, has blocks of the length that was asked for, and has no entry. Assumes nothing.
+use Prim.Native.Nat.{ℕ, _-_, _/_, _≤_}
+use mathlib.Core.Path.{_≡_, refl, sym, ap, _∙_}
+use mathlib.Core.Bool.{true}
+use mathlib.Core.List.{List, []}
+use mathlib.Core.Option.{some}
+use native.Mathlib.Omega.{arith}
+use lib.ListN.{length}
+use lib.IntN.{ℤ}
+use Rattle.rules.specs.Lists.{all, everyTwo, only}
+use Rattle.rules.specs.SuperBlock.{Geometry, lengthGood, geometryGood, fieldOf, version10}
+use Rattle.rules.specs.SuperBlock.Laws.{GoodGeometry, geometry-good, length-least, asStored, stored-block, stored-index, field-is}
+use Rattle.rules.specs.Names.{volumeNameGood}
+use Rattle.rules.specs.Names.Laws.{volume-name}
+use Rattle.rules.specs.Index.{itemsOf, innerSlots, walk, entriesOf, slotBytes}
+use Rattle.rules.specs.Regions.{regionsSound}
+use Rattle.rules.specs.Paths.{pathsSound}
+use Rattle.rules.specs.Refusals.{Volume}
+use Rattle.rules.specs.Refusals.Laws.{need-true, found-some, length-bounds, Opens, super-opens, opens-judge, length-formatted, formatted-ends, format-super, fresh-version, fresh-block}
+use Rattle.rules.specs.Outcome.{conclude, done}
+use Rattle.rules.specs.Writing.{formatOf, formatted, freshGeometry}
+use Rattle.laws.proofs.Lists.Perms.{perm-of}
+use Rattle.after.specs.After.{sight, AfterFormat}
+use Rattle.after.proofs.Format.Answers.{passed-need, passed-found}
+use Rattle.after.proofs.Format.Ends.{ends-sound}
+
+-- ---- what was asked for, and what was written
+record Asked (s : List ℕ) (bytesPerBlock reserved : ℕ) (name : List ℕ) (stamp : ℤ) : Type 0 where
+  blockField : ℕ
+  long : lengthGood (length s) ≡ true
+  field : fieldOf bytesPerBlock ≡ some blockField
+  good : geometryGood (length s) (freshGeometry (length s) blockField reserved stamp) ≡ true
+  named : volumeNameGood name ≡ true
+  image : formatOf s bytesPerBlock reserved name stamp .image ≡ formatted s (freshGeometry (length s) blockField reserved stamp) name
+
+asked : (s : List ℕ) (bytesPerBlock reserved : ℕ) (name : List ℕ) (stamp : ℤ) → formatOf s bytesPerBlock reserved name stamp .refusal ≡ 0
+    → Asked s bytesPerBlock reserved name stamp
+unfolding formatOf conclude done
+asked s bytesPerBlock reserved name stamp e =
+    let (a, e₁) = passed-need tt s [] _ 1 _ (omega arith) e in
+    let (b, f, e₂) = passed-found tt s [] _ 5 _ (omega arith) e₁ in
+    let (c, e₃) = passed-need tt s [] _ 5 _ (omega arith) e₂ in
+    let (d, e₄) = passed-need tt s [] _ 10 _ (omega arith) e₃ in
+    record {
+      blockField = b;
+      long = a;
+      field = f;
+      good = c;
+      named = d;
+      image = ap (λ v. conclude tt s [] v .image) (need-true _ _ a ∙ found-some _ _ f ∙ need-true _ _ c ∙ need-true _ _ d);
+    }
+
+-- ---- an index of 128 bytes has no slot between its ends
+fresh-index : (n b reserved : ℕ) (stamp : ℤ) → freshGeometry n b reserved stamp .indexBytes ≡ 128
+unfolding freshGeometry
+fresh-index n b reserved stamp = refl
+
+no-items : (t : List ℕ) (g : Geometry) → g .indexBytes ≡ 128 → itemsOf t g ≡ []
+unfolding itemsOf innerSlots walk
+no-items t g i = let z : g .indexBytes / slotBytes - 2 ≡ 0 = omega arith in rw z
+
+no-regions : (g : Geometry) → regionsSound g (entriesOf []) ≡ true
+unfolding regionsSound entriesOf all everyTwo
+no-regions g = refl
+
+no-paths : pathsSound (entriesOf []) ≡ true
+unfolding pathsSound entriesOf all everyTwo
+no-paths = refl
+
+empty : Geometry → Volume
+empty g = record { geometry = g; items = [] }
+
+no-sight : (t : List ℕ) (g : Geometry) → sight t (empty g) ≡ []
+unfolding sight only entriesOf empty
+no-sight t g = refl
+
+formatted-opens : (s : List ℕ) (g : Geometry) (name : List ℕ) → GoodGeometry (length s) g → length s ≤ 16_777_216 → version10 ≤ g .version
+    → g .indexBytes ≡ 128 → volumeNameGood name ≡ true
+    → Opens (formatted s g name) (empty (asStored g))
+unfolding empty
+formatted-opens s g name good high v i named =
+    let t = formatted s g name in
+    let short = volume-name name named .1 in
+    let room = length-least (length s) g good in
+    let l : length t ≡ length s = length-formatted s g name room short in
+    let i′ : asStored g .indexBytes ≡ 128 = stored-index g ∙ i in
+    super-opens t (empty (asStored g)) (format-super s g name high v good short) (sym (no-items t (asStored g) i′))
+    (ends-sound t (g .stamp) name (omega arith) (rw l (formatted-ends s g name room short)) named (asStored g) i′)
+    (no-regions (asStored g))
+    no-paths
+
+pub format-left : AfterFormat
+unfolding empty
+format-left s bytesPerBlock reserved name stamp e =
+    let a = asked s bytesPerBlock reserved name stamp e in
+    let g = freshGeometry (length s) (a .blockField) reserved stamp in
+    let t = formatted s g name in
+    let o : Opens t (empty (asStored g)) =
+    formatted-opens s g name (geometry-good (length s) g (a .good)) (length-bounds (length s) (a .long) .1)
+    (omega (arith, fresh-version (length s) (a .blockField) reserved stamp)) (fresh-index (length s) (a .blockField) reserved stamp) (a .named) in
+    rw (a .image) (record {
+      volume = empty (asStored g);
+      opens = opens-judge t (empty (asStored g)) o;
+      blocks = stored-block g ∙ fresh-block (length s) (a .blockField) reserved stamp ∙ field-is bytesPerBlock (a .blockField) (a .field) .2;
+      agree = perm-of _ _ (no-sight t (asStored g));
+    })

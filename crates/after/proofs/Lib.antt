@@ -1,0 +1,4 @@
+pub mod Format
+pub mod Create
+pub mod Delete
+pub mod Reclaim

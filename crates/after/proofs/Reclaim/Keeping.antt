@@ -1,0 +1,56 @@
+-- What the history sees of the entries after a reclaim: those that are live, as they were.
+use Prim.Native.Nat.{ℕ}
+use mathlib.Core.Path.{_≡_, refl, sym, ap, _∙_}
+use mathlib.Core.Bool.{Bool, true, false, _&&_, _||_, not}
+use mathlib.Core.List.{List, map}
+use lib.Dec.{eqb}
+use lib.ListN.{length}
+use borrow.Author.Tests.{eqb-true}
+use Rattle.rules.specs.Lists.{only, All}
+use Rattle.rules.specs.SuperBlock.{Geometry, blockLength}
+use Rattle.rules.specs.SuperBlock.Laws.{GoodGeometry}
+use Rattle.rules.specs.Index.{Entry, fileType, directoryType, runType, liveType, deletedType, typeFile, typeDirectory, typeDeletedFile, typeDeletedDirectory}
+use Rattle.rules.specs.Regions.{regionGood, regionsSound}
+use Rattle.rules.specs.Paths.{isLive}
+use Rattle.rules.specs.Writing.{isDeleted}
+use Rattle.after.specs.After.{isNamed, seen}
+use Rattle.laws.proofs.Lists.Parts.{only-only, only-ext, only-map}
+use Rattle.laws.proofs.Lists.Every.{map-ext, all-weaken, all-and, all-only}
+use Rattle.laws.proofs.Entries.Regions.{sound-says}
+use Rattle.laws.proofs.Images.Areas.{Between, Bare, bytes-kept}
+
+-- ---- a file or directory that is not deleted is live
+neither : (a b : Bool) → ((a || false) || (b || false)) ≡ (((a || false) || (b || false)) && (a || b))
+neither true b = refl
+neither false true = refl
+neither false false = refl
+
+named-live : (t : ℕ) → (not (deletedType t) && runType t) ≡ (runType t && liveType t)
+unfolding deletedType runType directoryType fileType liveType
+named-live t = go (eqb t typeDeletedDirectory) refl (eqb t typeDeletedFile) refl
+  where
+    go : (a : Bool) → eqb t typeDeletedDirectory ≡ a → (b : Bool) → eqb t typeDeletedFile ≡ b → (not (deletedType t) && runType t) ≡ (runType t && liveType t)
+    go true p b q = rw (eqb-true t typeDeletedDirectory p)
+    go false p true q = rw (eqb-true t typeDeletedFile q)
+    go false p false q = rw (p, q) (neither (eqb t typeDirectory) (eqb t typeFile))
+
+-- so of the named entries the live ones are left
+live-named : (es : List Entry) → only isNamed (only (λ e. not (isDeleted e)) es) ≡ only isLive (only isNamed es)
+unfolding isNamed isDeleted isLive
+live-named es =
+    only-only isNamed (λ e. not (isDeleted e)) es ∙ only-ext _ _ (λ e. named-live (e .kind)) es ∙ sym (only-only isLive isNamed es)
+
+-- ---- and seen as they were
+module _ (s t : List ℕ) (g h : Geometry) (good : GoodGeometry (length s) g) (same : Between s t g) (block : blockLength h ≡ blockLength g) where
+  seen-same : (e : Entry) → Bare e → regionGood g e ≡ true → seen t h e ≡ seen s g e
+  unfolding seen
+  seen-same e b r = rw (bytes-kept s t g h e good same block b r)
+
+  pub all-kept : (es : List Entry) → All Bare es → regionsSound g es ≡ true
+      → map (seen t h) (only isNamed (only (λ e. not (isDeleted e)) es)) ≡ only (λ k. k .live) (map (seen s g) (only isNamed es))
+  unfolding seen
+  all-kept es b r =
+      let each = all-weaken _ (λ e. seen t h e ≡ seen s g e) (λ e p. seen-same e (p .0) (p .1)) es (all-and Bare _ es b (sound-says g es r .each)) in
+      ap (map (seen t h)) (live-named es)
+      ∙ map-ext (seen t h) (seen s g) (only isLive (only isNamed es)) (all-only _ isLive (only isNamed es) (all-only _ isNamed es each))
+      ∙ sym (only-map (λ k. k .live) (seen s g) (only isNamed es))

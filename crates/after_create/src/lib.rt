@@ -1,1 +1,0 @@
-// What an accepted create leaves: see proofs/. There is no code here.

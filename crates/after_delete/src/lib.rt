@@ -1,1 +1,0 @@
-// What an accepted delete leaves: see proofs/. There is no code here.

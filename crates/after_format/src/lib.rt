@@ -1,1 +1,0 @@
-// What an accepted format leaves: see proofs/. There is no code here.

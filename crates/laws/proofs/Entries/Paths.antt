@@ -1,0 +1,261 @@
+-- Sound paths stay sound: in another order, with one live entry more, with one deleted, and without the deleted ones. Assumes nothing.
+use Prim.Native.Nat.{ℕ}
+use mathlib.Core.Path.{_≡_, refl, sym, ap, ap₂, subst, _∙_}
+use mathlib.Core.Bool.{Bool, true, false, _&&_, _||_, not}
+use mathlib.Core.List.{List, [], _∷_, _++_, map}
+use mathlib.Core.Option.{none, some}
+use lib.Dec.{eqb}
+use borrow.Author.Tests.{not-true}
+use Rattle.rules.specs.Lists.{any, everyTwo, only, eqList, All, Pairs, Perm}
+use Rattle.rules.specs.Lists.Laws.{and-true, and-both, or-right, eqList-refl, eqList-true}
+use Rattle.rules.specs.Names.{leading, isBelow}
+use Rattle.rules.specs.Index.{Entry, liveType, typeFile, typeDirectory}
+use Rattle.rules.specs.Paths.{isLive, liveAt, lookup, isDirectoryAt, directoryLive, directoriesLive, pathsDiffer, pathsSound, anyBelow}
+use Rattle.rules.specs.Writing.{nearestLive, isDeleted}
+use Rattle.laws.proofs.Lists.Parts.{map-append, any-map, any-ext, any-only}
+use Rattle.laws.proofs.Lists.Every.{or-left, or-not-says, or-not-holds, not-both, is-false, all-weaken, all-of, all-and, all-join, all-only, all-map, pairs-weaken, pairs-split, pairs-only, pairs-map, all-says, all-holds, two-says, two-holds, none-passes, any-found, all-found, any-weaken, first-at, none-says, every-map, every-ext, two-map, two-ext, map-same}
+use Rattle.laws.proofs.Lists.Perms.{perm-every, perm-any, perm-two}
+use Rattle.laws.proofs.Entries.EntryKinds.{live-kept}
+use Rattle.laws.proofs.Entries.Leading.{Above, top, under, above, below-leading}
+
+-- ---- as statements
+-- not two live entries of one path
+abbrev pub Differ : Entry → Entry → Type 0
+Differ e f = isLive e ≡ true → isLive f ≡ true → e .path ≡ f .path → ⊥
+
+pub differ-says : (e f : Entry) → pathsDiffer e f ≡ true → Differ e f
+unfolding pathsDiffer
+differ-says e f h a b c =
+    not-both _
+    (and-both (isLive e && isLive f) (eqList (e .path) (f .path)) (and-both (isLive e) (isLive f) a b) (ap (λ q. eqList q (f .path)) c ∙ eqList-refl (f .path)))
+    (not-true (isLive e && isLive f && eqList (e .path) (f .path)) h)
+
+pub differ-holds : (e f : Entry) → Differ e f → pathsDiffer e f ≡ true
+unfolding pathsDiffer
+differ-holds e f h =
+    ap not (is-false (isLive e && isLive f && eqList (e .path) (f .path)) (λ t.
+    let p = and-true (isLive e && isLive f) (eqList (e .path) (f .path)) t in
+    let q = and-true (isLive e) (isLive f) (p .0) in
+    h (q .0) (q .1) (eqList-true (e .path) (f .path) (p .1))))
+
+differ-back : (e f : Entry) → pathsDiffer e f ≡ true → pathsDiffer f e ≡ true
+differ-back e f h = differ-holds f e (λ a b c. differ-says e f h b a (sym c))
+
+-- the leading paths of p are live directories of es
+abbrev pub DirectoriesLive : List Entry → List ℕ → Type 0
+DirectoriesLive es p = All (λ d. directoryLive es d ≡ true) (leading p)
+
+pub record PathsGood (es : List Entry) : Type 0 where
+  pub differ : Pairs Differ es
+  pub directories : All (λ e. isLive e ≡ true → DirectoriesLive es (e .path)) es
+
+pub paths-says : (es : List Entry) → pathsSound es ≡ true → PathsGood es
+unfolding pathsSound directoriesLive
+paths-says es h =
+    let p = and-true (everyTwo pathsDiffer es) _ h in
+    record {
+      differ = pairs-weaken _ Differ differ-says es (two-says pathsDiffer es (p .0));
+      directories = all-weaken _ _ (λ e q a. all-says (directoryLive es) (leading (e .path)) (or-not-says (isLive e) _ q a)) es (all-says _ es (p .1));
+    }
+
+pub paths-holds : (es : List Entry) → PathsGood es → pathsSound es ≡ true
+unfolding pathsSound directoriesLive
+paths-holds es r =
+    and-both (everyTwo pathsDiffer es) _
+    (two-holds pathsDiffer es (pairs-weaken Differ _ differ-holds es (r .differ)))
+    (all-holds _ es (all-weaken _ _ (λ e q. or-not-holds (isLive e) _ (λ a. all-holds (directoryLive es) (leading (e .path)) (q a))) es (r .directories)))
+
+-- ---- another order
+directories-ext : (es fs : List Entry) → ((d : List ℕ) → directoryLive es d ≡ directoryLive fs d) → (p : List ℕ) → directoriesLive es p ≡ directoriesLive fs p
+unfolding directoriesLive
+directories-ext es fs h p = every-ext (directoryLive es) (directoryLive fs) h (leading p)
+
+pub paths-perm : {es fs : List Entry} → Perm es fs → pathsSound es ≡ pathsSound fs
+unfolding pathsSound directoryLive
+paths-perm {es} {fs} p =
+    ap₂ (λ s t. s && t) (perm-two pathsDiffer differ-back p)
+    (perm-every _ p
+    ∙ every-ext _ _ (λ e. ap (λ t. not (isLive e) || t) (directories-ext es fs (λ d. perm-any (isDirectoryAt d) p) (e .path))) fs)
+
+-- ---- entries changed in place: paths depend on kind and path, and on nothing else
+pub record SamePath (e f : Entry) : Type 0 where
+  pub kind : f .kind ≡ e .kind
+  pub path : f .path ≡ e .path
+
+live-same : (e f : Entry) → SamePath e f → isLive f ≡ isLive e
+unfolding isLive
+live-same e f s = ap liveType (s .kind)
+
+differ-same : (e f x y : Entry) → SamePath e x → SamePath f y → pathsDiffer x y ≡ pathsDiffer e f
+unfolding pathsDiffer
+differ-same e f x y s t = rw (live-same e x s, live-same f y t, s .path, t .path)
+
+directory-same : (d : List ℕ) (e f : Entry) → SamePath e f → isDirectoryAt d f ≡ isDirectoryAt d e
+unfolding isDirectoryAt
+directory-same d e f s = rw (s .kind, s .path)
+
+pub paths-map : (f : Entry → Entry) → ((e : Entry) → SamePath e (f e)) → (es : List Entry) → pathsSound (map f es) ≡ pathsSound es
+unfolding pathsSound directoryLive
+paths-map f s es =
+    ap₂ (λ t u. t && u)
+    (two-map pathsDiffer f es ∙ two-ext _ _ (λ x y. differ-same x y (f x) (f y) (s x) (s y)) es)
+    (every-map _ f es
+    ∙ every-ext _ _ (λ e. ap₂ (λ t u. not t || u) (live-same e (f e) (s e)) (directories-ext (map f es) es go (f e .path) ∙ ap (directoriesLive es) (s e .path))) es)
+  where
+    go : (d : List ℕ) → directoryLive (map f es) d ≡ directoryLive es d
+    go d = any-map (isDirectoryAt d) f es ∙ any-ext _ _ (λ e. directory-same d e (f e) (s e)) es
+
+-- ---- a live entry's place among the others
+pub liveAt-says : (p : List ℕ) (e : Entry) → liveAt p e ≡ true → (isLive e ≡ true) × (e .path ≡ p)
+unfolding liveAt
+liveAt-says p e h = let q = and-true (isLive e) (eqList (e .path) p) h in (q .0, eqList-true (e .path) p (q .1))
+
+pub liveAt-holds : (p : List ℕ) (e : Entry) → isLive e ≡ true → e .path ≡ p → liveAt p e ≡ true
+unfolding liveAt
+liveAt-holds p e a b = and-both (isLive e) (eqList (e .path) p) a (ap (λ q. eqList q p) b ∙ eqList-refl p)
+
+liveAt-not : (e f : Entry) → isLive e ≡ true → (isLive f ≡ true → f .path ≡ e .path → ⊥) → liveAt (e .path) f ≡ false
+liveAt-not e f a h = is-false (liveAt (e .path) f) (λ t. let q = liveAt-says (e .path) f t in h (q .0) (q .1))
+
+-- no other live entry has its path
+pub live-alone : (pre : List Entry) (e : Entry) (post : List Entry) → Pairs Differ (pre ++ (e ∷ post)) → isLive e ≡ true
+    → All (λ f. liveAt (e .path) f ≡ false) pre × All (λ f. liveAt (e .path) f ≡ false) post
+live-alone pre e post h a =
+    let (p, q, r) = pairs-split Differ pre (e ∷ post) h in
+    (all-weaken _ _ (λ f c. liveAt-not e f a (λ b s. c .0 b a s)) pre r, all-weaken _ _ (λ f d. liveAt-not e f a (λ b s. d a b (sym s))) post (q .0))
+
+pub lookup-live : (es pre : List Entry) (e : Entry) (post : List Entry) → pathsSound es ≡ true → es ≡ pre ++ (e ∷ post) → isLive e ≡ true
+    → lookup (e .path) es ≡ some e
+unfolding lookup
+lookup-live es pre e post h w a =
+    let r = live-alone pre e post (paths-says _ (rw w at h) .differ) a in
+    rw w (first-at (liveAt (e .path)) pre e post (r .0) (liveAt-holds (e .path) e a refl))
+
+-- what changes the live entry of a path, and no other, changes one element
+pub map-live : (f : Entry → Entry) (pre : List Entry) (e : Entry) (post : List Entry) → pathsSound (pre ++ (e ∷ post)) ≡ true → isLive e ≡ true
+    → ((x : Entry) → liveAt (e .path) x ≡ false → f x ≡ x) → map f (pre ++ (e ∷ post)) ≡ pre ++ (f e ∷ post)
+map-live f pre e post h a k =
+    let r = live-alone pre e post (paths-says _ h .differ) a in
+    map-append f pre (e ∷ post) ∙ ap₂ (λ us vs. us ++ (f e ∷ vs)) (map-same f pre (all-weaken _ _ k pre (r .0))) (map-same f post (all-weaken _ _ k post (r .1)))
+
+-- ---- a new live entry
+directory-more : (e : Entry) (es : List Entry) (d : List ℕ) → directoryLive es d ≡ true → directoryLive (e ∷ es) d ≡ true
+unfolding directoryLive any
+directory-more e es d h = or-right (isDirectoryAt d e) (any (isDirectoryAt d) es) h
+
+more-directories : (e : Entry) (es : List Entry) (p : List ℕ) → DirectoriesLive es p → DirectoriesLive (e ∷ es) p
+more-directories e es p h = all-weaken _ _ (directory-more e es) (leading p) h
+
+directory-live : (d : List ℕ) (e : Entry) → isDirectoryAt d e ≡ true → (isLive e ≡ true) × (e .path ≡ d)
+unfolding isDirectoryAt isLive liveType
+directory-live d e h =
+    let q = and-true (eqb (e .kind) typeDirectory) (eqList (e .path) d) h in
+    (or-left (eqb (e .kind) typeDirectory) (eqb (e .kind) typeFile) (q .0), eqList-true (e .path) d (q .1))
+
+-- a live directory's own directories are live
+pub directory-above : (es : List Entry) (d : List ℕ) → PathsGood es → directoryLive es d ≡ true → DirectoriesLive es d
+unfolding directoryLive
+directory-above es d g h =
+    let f = any-found (isDirectoryAt d) es h in
+    let q = directory-live d (f .it) (f .passes) in
+    subst (DirectoriesLive es) (q .1) (all-found _ (isDirectoryAt d) es (g .directories) f (q .0))
+
+nearest-last : (es : List Entry) (ds : List (List ℕ)) (d : List ℕ) → nearestLive es (ds ++ (d ∷ [])) ≡ directoryLive es d
+unfolding nearestLive
+nearest-last es [] d = refl
+nearest-last es (p ∷ []) d = refl
+nearest-last es (p ∷ q ∷ ps) d = nearest-last es (q ∷ ps) d
+
+-- where the nearest directory is live, all are
+pub nearest-all : (es : List Entry) (p : List ℕ) → PathsGood es → nearestLive es (leading p) ≡ true → DirectoriesLive es p
+nearest-all es p g h = go (above p)
+  where
+    go : Above p → DirectoriesLive es p
+    go (top e) = rw e tt
+    go (under d e) =
+        let l : directoryLive es d ≡ true = sym (nearest-last es (leading d) d) ∙ ap (nearestLive es) (sym e) ∙ h in
+        rw e (all-join (λ q. directoryLive es q ≡ true) (leading d) (d ∷ []) (directory-above es d g l) (l, tt))
+
+pub paths-create : (es : List Entry) (e : Entry) → lookup (e .path) es ≡ none → nearestLive es (leading (e .path)) ≡ true → pathsSound es ≡ true
+    → pathsSound (e ∷ es) ≡ true
+unfolding lookup
+paths-create es e l n h =
+    let g = paths-says es h in
+    paths-holds (e ∷ es) (record {
+      differ = (all-weaken _ _ (λ f q a b c. not-both (liveAt (e .path) f) (liveAt-holds (e .path) f b (sym c)) q) es (none-says (liveAt (e .path)) es l), g .differ);
+      directories = (λ a. more-directories e es (e .path) (nearest-all es (e .path) g n), all-weaken _ _ (λ f q a. more-directories e es (f .path) (q a)) es (g .directories));
+    })
+
+-- ---- without some entries that are not live
+pub paths-only : (q : Entry → Bool) → ((e : Entry) → isLive e ≡ true → q e ≡ true) → (es : List Entry) → pathsSound es ≡ true → pathsSound (only q es) ≡ true
+unfolding directoryLive
+paths-only q k es h =
+    let g = paths-says es h in
+    paths-holds (only q es) (record {
+      differ = pairs-only Differ q es (g .differ);
+      directories = all-only _ q es (all-weaken _ _ (λ e r a. all-weaken _ _ go (leading (e .path)) (r a)) es (g .directories));
+    })
+  where
+    go : (d : List ℕ) → directoryLive es d ≡ true → directoryLive (only q es) d ≡ true
+    go d l =
+        any-only (isDirectoryAt d) q es
+        ∙ any-weaken (isDirectoryAt d) (λ e. q e && isDirectoryAt d e) es
+        (all-of _ (λ e t. and-both (q e) (isDirectoryAt d e) (k e (directory-live d e t .0)) t) es) l
+
+pub paths-reclaim : (es : List Entry) → pathsSound es ≡ true → pathsSound (only (λ e. not (isDeleted e)) es) ≡ true
+paths-reclaim es h = paths-only (λ e. not (isDeleted e)) live-kept es h
+
+-- ---- a live entry deleted
+-- the entry of the path is no longer live, and the others are as they were
+pub record Deletes (path : List ℕ) (f : Entry → Entry) : Type 0 where
+  pub gone : (e : Entry) → liveAt path e ≡ true → isLive (f e) ≡ false
+  pub others : (e : Entry) → liveAt path e ≡ false → SamePath e (f e)
+
+-- an entry that is still live is as it was
+still : (path : List ℕ) (f : Entry → Entry) → Deletes path f → (e : Entry) → isLive (f e) ≡ true → SamePath e (f e)
+still path f k e a = go (liveAt path e) refl
+  where
+    go : (t : Bool) → liveAt path e ≡ t → SamePath e (f e)
+    go true l = absurd (not-both (isLive (f e)) a (k .gone e l))
+    go false l = k .others e l
+
+still-live : (path : List ℕ) (f : Entry → Entry) → Deletes path f → (e : Entry) → isLive (f e) ≡ true → isLive e ≡ true
+still-live path f k e a = sym (live-same e (f e) (still path f k e a)) ∙ a
+
+-- a live directory of another path stays
+directory-stays : (path : List ℕ) (f : Entry → Entry) → Deletes path f → (es : List Entry) (d : List ℕ) → eqList path d ≡ false → directoryLive es d ≡ true
+    → directoryLive (map f es) d ≡ true
+unfolding directoryLive
+directory-stays path f k es d n l =
+    any-map (isDirectoryAt d) f es ∙ any-weaken (isDirectoryAt d) (λ e. isDirectoryAt d (f e)) es (all-of _ go es) l
+  where
+    go : (e : Entry) → isDirectoryAt d e ≡ true → isDirectoryAt d (f e) ≡ true
+    go e t =
+        let p = directory-live d e t .1 in
+        let o : liveAt path e ≡ false = is-false (liveAt path e) (λ a. not-both (eqList path d) (ap (λ q. eqList q d) (sym (liveAt-says path e a .1) ∙ p) ∙ eqList-refl d) n) in
+        directory-same d e (f e) (k .others e o) ∙ t
+
+-- the path is no directory of a live entry that is not below it
+not-above : (path : List ℕ) (e : Entry) → (isLive e && isBelow path (e .path)) ≡ false → isLive e ≡ true → All (λ d. eqList path d ≡ false) (leading (e .path))
+not-above path e h a =
+    none-passes (eqList path) (leading (e .path)) (sym (below-leading path (e .path)) ∙ sym (ap (λ t. t && isBelow path (e .path)) a) ∙ h)
+
+pub paths-delete : (path : List ℕ) (f : Entry → Entry) (es : List Entry) → Deletes path f → anyBelow path es ≡ false → pathsSound es ≡ true
+    → pathsSound (map f es) ≡ true
+unfolding anyBelow
+paths-delete path f es k b h =
+    let g = paths-says es h in
+    paths-holds (map f es) (record {
+      differ = pairs-map Differ Differ f two es (g .differ);
+      directories = all-map _ f es (all-weaken _ _ one es (all-and _ _ es (none-passes _ es b) (g .directories)));
+    })
+  where
+    two : (x y : Entry) → Differ x y → Differ (f x) (f y)
+    two x y d a c e = d (still-live path f k x a) (still-live path f k y c) (sym (still path f k x a .path) ∙ e ∙ still path f k y c .path)
+
+    one : (e : Entry) → ((isLive e && isBelow path (e .path)) ≡ false) × (isLive e ≡ true → DirectoriesLive es (e .path)) → isLive (f e) ≡ true
+        → DirectoriesLive (map f es) (f e .path)
+    one e q a =
+        let l = still-live path f k e a in
+        subst (DirectoriesLive (map f es)) (sym (still path f k e a .path))
+        (all-weaken _ _ (λ d r. directory-stays path f k es d (r .0) (r .1)) (leading (e .path)) (all-and _ _ (leading (e .path)) (not-above path e (q .0) l) (q .1 l)))

@@ -1,0 +1,5 @@
+pub mod Lists
+pub mod Entries
+pub mod Index
+pub mod Images
+pub mod Listing

@@ -1,0 +1,114 @@
+-- THE LISTING FITS: of any image, what the listing program writes has at most 131,072 bytes. Assumes nothing.
+use Prim.Native.Nat.{ℕ, _+_, _*_, _^_, _≤_, _<_}
+use mathlib.Core.Bool.{Bool, true, false}
+use mathlib.Core.List.{List, [], _∷_}
+use mathlib.Core.Path.{_≡_, refl, ap, _∙_}
+use native.Mathlib.Omega.{arith}
+use lib.Dec.{leb}
+use lib.ListN.{length, length-append, length-take, drop}
+use borrow.Author.Tests.{leb-true}
+use Rattle.rules.specs.Lists.{part, only, sum}
+use Rattle.rules.specs.Dates.Text.{decimal-length}
+use Rattle.rules.specs.Index.{Entry, identifierAt, innerSlots, itemAt, itemsOf, slotAt, volumeField, volumeName, fileType}
+use Rattle.rules.specs.Regions.{blocksOf, heldBlocks}
+use Rattle.rules.specs.Paths.{isLive}
+use Rattle.rules.specs.Refusals.{Verdict, refused, accepted, need, andThen, Volume, entries, judge, judgeGeometry, judgeIndex}
+use Rattle.rules.specs.Refusals.Laws.{Opens, judge-opens, need-accepted}
+use Rattle.rules.specs.Listing.{lineOf, linesOf, countLine, refusedLine, volumeText, listingOf}
+use Rattle.laws.proofs.Lists.Parts.{sum-parts}
+use Rattle.laws.proofs.Listing.Weights.{Bytes, bytes-drop, Weighs, sum-walk}
+use Rattle.laws.proofs.Listing.Lines.{perSlot, upToZero-length, line-weighs, one-weighs, blocks-weigh}
+
+-- ---- lengths as sums
+lines-sum : (es : List Entry) → length (linesOf es) ≡ sum (λ e. length (lineOf e)) es
+unfolding linesOf sum
+lines-sum [] = refl
+lines-sum (e ∷ es) = length-append (lineOf e) (linesOf es) ∙ ap (λ (n : ℕ). length (lineOf e) + n) (lines-sum es)
+
+count-sum : (es : List Entry) → length es ≡ sum (λ e. 1) es
+unfolding sum
+count-sum [] = refl
+count-sum (e ∷ es) = omega (arith, count-sum es)
+
+-- what is chosen sums to no more than the whole
+sum-only : (f : Entry → ℕ) (p : Entry → Bool) (es : List Entry) → sum f (only p es) ≤ sum f es
+sum-only f p es = omega (arith, sum-parts f p es)
+
+-- ---- refusals
+abbrev Low : {A : Type 0} → Verdict A → Type 0
+Low (refused n) = n < 10
+Low (accepted x) = Unit {0}
+
+need-low : {A : Type 0} (b : Bool) (n : ℕ) (v : Verdict A) → n < 10 → Low v → Low (need b n v)
+unfolding need
+need-low true n v h l = l
+need-low false n v h l = h
+
+then-low : {A B : Type 0} (v : Verdict A) (next : A → Verdict B) → Low v → ((x : A) → Low (next x)) → Low (andThen v next)
+unfolding andThen
+then-low (refused n) next l r = l
+then-low (accepted x) next l r = r x
+
+judge-low : (s : List ℕ) → Low (judge s)
+unfolding judge judgeGeometry judgeIndex
+judge-low s =
+    then-low _ _
+    (need-low _ 1 _ (omega arith) (need-low _ 2 _ (omega arith) (need-low _ 3 _ (omega arith) (need-low _ 4 _ (omega arith) (need-low _ 5 _ (omega arith) tt)))))
+    (λ g. need-low _ 6 _ (omega arith) (need-low _ 7 _ (omega arith) (need-low _ 8 _ (omega arith) tt)))
+
+refused-fits : (s : List ℕ) (n : ℕ) → n < 10 → length (volumeText s (refused n)) ≤ 10
+unfolding volumeText refusedLine
+refused-fits s n h = simp length-append (omega (arith, decimal-length 1 n (omega arith) h))
+
+-- ---- an image that opens
+name-fits : (s : List ℕ) → length (volumeName s) ≤ 52
+unfolding volumeName volumeField part
+name-fits s = omega (arith, upToZero-length (volumeField s), length-take 52 (drop (identifierAt s + 12) s))
+
+inner-few : (s : List ℕ) (v : Volume) → Opens s v → length s ≤ 65_536 → innerSlots (v .geometry) ≤ 1022
+unfolding innerSlots
+inner-few s v o h = omega (arith, o .geometry-good .index-fits)
+
+module _ (s : List ℕ) (v : Volume) (bytes : Bytes s) (o : Opens s v) (small : length s ≤ 65_536) where
+  -- a sum over the entries that stand in the index
+  sum-entries : (f : Entry → ℕ) (m : ℕ) → ((left k : ℕ) (a : List ℕ) → 0 < left → Bytes a → Weighs f m left (itemAt left k a))
+      → sum f (entries v) ≤ m * innerSlots (v .geometry)
+  unfolding itemsOf
+  sum-entries f m each =
+      rw (o .items-are)
+      (sum-walk f m each (innerSlots (v .geometry)) (innerSlots (v .geometry)) 1 (drop (slotAt s (v .geometry) 1) s) (bytes-drop (slotAt s (v .geometry) 1) s bytes))
+
+  few : innerSlots (v .geometry) ≤ 1022
+  few = inner-few s v o small
+
+  lines-fit : length (linesOf (only isLive (entries v))) ≤ perSlot * 1022
+  lines-fit =
+      omega (arith, lines-sum (only isLive (entries v)), sum-only (λ e. length (lineOf e)) isLive (entries v), sum-entries (λ e. length (lineOf e)) perSlot line-weighs, few)
+
+  live-few : length (only isLive (entries v)) ≤ 1022
+  live-few = omega (arith, count-sum (only isLive (entries v)), sum-only (λ e. 1) isLive (entries v), sum-entries (λ e. 1) 1 one-weighs, few)
+
+  held-few : heldBlocks (entries v) ≤ 2 ^ 64 * 1022
+  unfolding heldBlocks
+  held-few = omega (arith, sum-only blocksOf (λ e. fileType (e .kind)) (entries v), sum-entries blocksOf (2 ^ 64) blocks-weigh, few)
+
+  count-fits : length (countLine (entries v)) ≤ 39
+  unfolding countLine
+  count-fits =
+      simp length-append
+      (omega (arith, decimal-length 4 (length (only isLive (entries v))) (omega arith) (omega (arith, live-few)), decimal-length 23 (heldBlocks (entries v)) (omega arith) (omega (arith, held-few))))
+
+  volume-fits : length (volumeText s (accepted v)) ≤ 131_000
+  unfolding volumeText
+  volume-fits = simp length-append (omega (arith, name-fits s, lines-fit, count-fits))
+
+-- one of more than 65,536 bytes is refused
+pub listing-fits : (s : List ℕ) → Bytes s → length (listingOf s) ≤ 131_000
+unfolding listingOf
+listing-fits s bytes = by (need (leb (length s) 65_536) 1 (judge s)) refl (need-low (leb (length s) 65_536) 1 (judge s) (omega arith) (judge-low s))
+  where
+    by : (r : Verdict Volume) → need (leb (length s) 65_536) 1 (judge s) ≡ r → Low r → length (volumeText s r) ≤ 131_000
+    by (refused n) e l = omega (arith, refused-fits s n l)
+    by (accepted v) e l =
+        let h = need-accepted (leb (length s) 65_536) 1 (judge s) e in
+        volume-fits s v bytes (judge-opens s v (h .1)) (leb-true (length s) 65_536 (h .0))

@@ -1,1 +1,0 @@
-// How long a listing can be: see proofs/. There is no code here.

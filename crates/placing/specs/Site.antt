@@ -1,0 +1,36 @@
+-- A site in the rules' words: the entry made there, the image that results, and that all of it lies in the image.
+use Prim.Native.Nat.{ℕ, _+_, _-_, _*_, _≤_}
+use mathlib.Core.Path.{_≡_}
+use mathlib.Core.Bool.{Bool, true, false}
+use mathlib.Core.List.{List}
+use lib.ListN.{length}
+use lib.IntN.{ℤ}
+use Rattle.rules.specs.SuperBlock.{blockLength}
+use Rattle.rules.specs.Index.{Entry, continuing}
+use Rattle.rules.specs.Writing.{New, newFile, newDirectory, kindOf, bytesOf, newEntry, created}
+use Rattle.geometry.specs.View.{geometryView}
+use Rattle.placing.specs.declared.Site.{Site}
+
+-- what is created, as a program is told it: a file with these bytes, or a directory
+unfoldable pub newOf : Bool → List ℕ → New
+newOf true bytes = newFile bytes
+newOf false bytes = newDirectory
+
+abbrev pub siteEntry : New → List ℕ → ℤ → Site → Entry
+siteEntry new path stamp p = newEntry new path stamp (p .slot .0) (p .start .0) (p .end .0 - p .start .0)
+
+abbrev pub siteImage : List ℕ → New → List ℕ → ℤ → Site → List ℕ
+siteImage s new path stamp p = created s (geometryView (p .old)) (geometryView (p .new)) (siteEntry new path stamp p) (bytesOf new)
+
+pub record SiteIn (s : List ℕ) (new : New) (path : List ℕ) (p : Site) : Type 0 where
+  pub long : 512 ≤ length s
+  pub short : length s ≤ 16_777_216
+  pub field : p .new .field ≤ 5
+  pub indexLow : 128 ≤ p .new .index
+  pub indexFits : p .new .index ≤ length s
+  pub slots : p .slots ≡ 1 + continuing (kindOf new) (length path)
+  pub pathShort : length path ≤ 285
+  pub run : length s - p .new .index + 64 * (p .slot .0 + p .slots) ≤ length s
+  pub ordered : p .start .0 ≤ p .end .0
+  pub region : p .end .0 * blockLength (geometryView (p .new)) ≤ length s
+  pub holds : length (bytesOf new) ≤ (p .end .0 - p .start .0) * blockLength (geometryView (p .new))
