@@ -38,16 +38,6 @@ enum Doom {
     At(Offset, u8),
 }
 
-// The type that an entry of this type has once it is deleted.
-fn deleted_kind(kind: u8) -> u8
-    ensures { λ r. ⌜ r ≡ deletedKind kind ⌝ }
-{
-    if index::is_file(kind) {
-        return 0x1A;
-    }
-    0x19
-}
-
 fn plan_entry(img: &[u8], g: Geometry, path: &[u8]) -> Doom
     requires { ⌜ Opened (now img) g ⌝ }
     ensures { λ r. ⌜ Planned (now (img .entry)) (now (path .entry)) r ⌝ }
@@ -85,7 +75,7 @@ fn mark(img: &mut [u8], at: usize, kind: u8, stamp: u64)
     requires { ⌜ at + 64 ≤ length (now img) ⌝ }
     ensures { λ _. ⌜ now (img .exit) ≡ markedAt (now (img .entry)) at kind (signedOf stamp) ⌝ }
 {
-    fields::put_le(img, at, 1, fields::wide(deleted_kind(kind)));
+    fields::put_le(img, at, 1, fields::wide(slots::deleted_kind(kind)));
     fields::put_le(img, at + STAMP, 8, stamp);
 }
 
@@ -103,15 +93,6 @@ pub fn delete(img: &mut [u8], path: &[u8], stamp: u64) -> u32
 }
 
 // ---- reclaim
-
-fn is_deleted(kind: u8) -> bool
-    ensures { λ r. ⌜ r ≡ deletedType kind ⌝ }
-{
-    if kind == 0x19 {
-        return true;
-    }
-    kind == 0x1A
-}
 
 // So many slots from `at` on become unused.
 fn clear_run(img: &mut [u8], at: usize, slots: u64)
@@ -132,7 +113,7 @@ fn clear_head(img: &mut [u8], h: Head)
     requires { ⌜ HeadIn (now img) h ⌝ }
     ensures { λ _. ⌜ now (img .exit) ≡ headCleared (now (img .entry)) h ⌝ }
 {
-    if is_deleted(h.kind) {
+    if slots::is_deleted(h.kind) {
         clear_run(img, h.at.0, h.slots);
     }
 }

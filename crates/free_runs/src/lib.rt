@@ -120,7 +120,7 @@ pub fn lowest_free(img: &[u8], from: Cursor, k: u64, low: Block, ceiling: Block)
 fn file_blocks(h: Head) -> u64
     ensures { λ r. ⌜ ((s : List ℕ) → r ≡ fileBlocks (headView s h)) ⌝ }
 {
-    if !index::is_file(h.kind) {
+    if !slots::is_file(h.kind) {
         return 0;
     }
     if h.end.0 < h.start.0 {

@@ -38,42 +38,6 @@ pub enum Next {
     Found(Head, Cursor),
 }
 
-// A live or deleted file.
-pub fn is_file(kind: u8) -> bool
-    ensures { λ r. ⌜ r ≡ fileType kind ⌝ }
-{
-    if kind == 0x12 {
-        return true;
-    }
-    kind == 0x1A
-}
-
-// A type that starts a run.
-pub fn is_run(kind: u8) -> bool
-    ensures { λ r. ⌜ r ≡ runType kind ⌝ }
-{
-    if kind == 0x11 {
-        return true;
-    }
-    if kind == 0x19 {
-        return true;
-    }
-    is_file(kind)
-}
-
-// A first byte that may not stand where it starts no entry.
-fn is_stray(kind: u8) -> bool
-    ensures { λ r. ⌜ r ≡ strayType kind ⌝ }
-{
-    if 0x20 <= kind {
-        return true;
-    }
-    if kind == 0x01 {
-        return true;
-    }
-    kind == 0x02
-}
-
 // A name's field and continuing slots: there is a zero, and what stands before it is a path.
 pub fn name_good(field: &[u8]) -> bool
     ensures { λ r. ⌜ r ≡ nameGood (now (field .entry)) ⌝ }
@@ -94,7 +58,7 @@ fn run_step(img: &[u8], at: usize, left: u64) -> u64
     if left < slots {
         return 0;
     }
-    let name = at + names::name_at(img[at]) as usize;
+    let name = at + slots::name_at(img[at]) as usize;
     let end = at + (64 * slots) as usize;
     if !name_good(&img[name..end]) {
         return 0;
@@ -108,13 +72,13 @@ fn slot_step(img: &[u8], at: usize, left: u64) -> u64
     ensures { λ r. ⌜ (r ≡ stepAt left (drop at (now (img .entry)))) × (r ≤ left) ⌝ }
 {
     let kind = img[at];
-    if is_run(kind) {
+    if slots::is_run(kind) {
         return run_step(img, at, left);
     }
     if kind == 0x18 {
         return 1;
     }
-    if is_stray(kind) {
+    if slots::is_stray(kind) {
         return 0;
     }
     1
@@ -145,7 +109,7 @@ fn file_field(img: &[u8], at: usize, o: usize) -> u64
     requires { ⌜ (at + 64 ≤ length (now img)) × (o + 8 ≤ 64) ⌝ }
     ensures { λ r. ⌜ r ≡ fileField (drop at (now (img .entry))) o ⌝ }
 {
-    if is_file(img[at]) {
+    if slots::is_file(img[at]) {
         return fields::le64_at(img, at + o);
     }
     0
@@ -174,7 +138,7 @@ pub fn head_at(img: &[u8], at: usize, slot: u64) -> Head
     ensures { λ r. ⌜ headView (now (img .entry)) r ≡ headOf slot (drop at (now (img .entry))) ⌝ }
     ensures place { λ r. ⌜ (r .at .0 ≡ at) × (r .slots ≤ 256) ⌝ }
 {
-    if is_run(img[at]) {
+    if slots::is_run(img[at]) {
         return run_head(img, at, slot);
     }
     Head {
@@ -187,16 +151,6 @@ pub fn head_at(img: &[u8], at: usize, slot: u64) -> Head
         end: Block(fields::le64_at(img, at + 18)),
         length: 0,
     }
-}
-
-// A type that starts an entry.
-pub fn is_entry(kind: u8) -> bool
-    ensures { λ r. ⌜ r ≡ entryType kind ⌝ }
-{
-    if kind == 0x18 {
-        return true;
-    }
-    is_run(kind)
 }
 
 // The entry at the cursor, and the cursor behind it.
@@ -225,7 +179,7 @@ pub fn next_entry(img: &[u8], from: Cursor) -> Next
     let mut slot = from.slot.0;
     let mut left = from.left;
     while 0 < left {
-        if is_entry(img[at]) {
+        if slots::is_entry(img[at]) {
             return found(
                 img,
                 Cursor {

@@ -50,7 +50,7 @@ fn put_refused(out: &mut [u8], n: u8) -> usize
 fn mark_of(kind: u8) -> u8
     ensures { λ r. ⌜ r ≡ markOf kind ⌝ }
 {
-    if index::is_file(kind) { b'F' } else { b'D' }
+    if slots::is_file(kind) { b'F' } else { b'D' }
 }
 
 fn put_numbers(h: Head, out: &mut [u8], at: usize) -> usize
@@ -94,7 +94,7 @@ fn put_entry(img: &[u8], h: Head, out: &mut [u8], at: usize) -> usize
     requires { ⌜ HeadIn (now img) h × (at + length (entryText (headView (now img) h)) + 30 ≤ length (now out)) ⌝ }
     ensures { λ r. ⌜ Wrote (now (out .entry)) at (entryText (headView (now (img .entry)) h)) (now (out .exit)) r ⌝ }
 {
-    if paths::is_live(h.kind) {
+    if slots::is_live(h.kind) {
         return put_line(img, h, out, at);
     }
     at
@@ -122,7 +122,7 @@ fn put_lines(img: &[u8], from: Cursor, out: &mut [u8], at: usize) -> usize
 fn live_one(h: Head) -> u64
     ensures { λ r. ⌜ ((s : List ℕ) → r ≡ liveOne (headView s h)) × (r ≤ 1) ⌝ }
 {
-    if paths::is_live(h.kind) { 1 } else { 0 }
+    if slots::is_live(h.kind) { 1 } else { 0 }
 }
 
 fn count_live(img: &[u8], from: Cursor) -> u64

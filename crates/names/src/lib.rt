@@ -5,7 +5,6 @@ ghost use Prim.Native.Nat.{_≤_};
 ghost use lib.Dec.{eqb};
 ghost use Rattle.rules.specs.Lists.{all, any};
 ghost use Rattle.rules.specs.Names.{isMark, byteGood, textGood, parts, partGood, pathGood, newPathGood, volumeTextGood, volumeNameGood};
-ghost use Rattle.rules.specs.Index.{nameAt, continuing};
 ghost use Rattle.names.specs.Automaton.{partStep};
 
 // Whether b is among the bytes of s.
@@ -110,23 +109,4 @@ pub fn volume_name_good(s: &[u8]) -> bool
     ensures { λ r. ⌜ r ≡ volumeNameGood (now (s .entry)) ⌝ }
 {
     volume_text_good(s) && s.len() <= 51
-}
-
-// ---- the slots of a name
-
-// Where the name starts in the first slot of an entry of this kind.
-pub fn name_at(kind: u8) -> u64
-    ensures { λ r. ⌜ (r ≡ nameAt kind) × (r ≤ 34) ⌝ }
-{
-    match kind {
-        0x12 | 0x1A => 34,
-        _ => 10,
-    }
-}
-
-// The fewest slots that continue a name of n bytes and its zero. n is taken apart so that no sum wraps, however large it is.
-pub fn continuing(kind: u8, n: u64) -> u64
-    ensures { λ r. ⌜ r ≡ continuing kind n ⌝ }
-{
-    n / 64 + (n % 64 + name_at(kind)) / 64
 }

@@ -58,15 +58,6 @@ pub fn is_below(above: &[u8], path: &[u8]) -> bool
     same_bytes(above, &path[..n])
 }
 
-pub fn is_live(kind: u8) -> bool
-    ensures { λ r. ⌜ r ≡ liveType kind ⌝ }
-{
-    if kind == 0x11 {
-        return true;
-    }
-    kind == 0x12
-}
-
 // Where the name of a run lies: it ends at the first zero of its field.
 pub fn name_of(img: &[u8], h: Head) -> Name
     requires { ⌜ HeadIn (now img) h × (runType (h .kind) ≡ true) ⌝ }
@@ -74,7 +65,7 @@ pub fn name_of(img: &[u8], h: Head) -> Name
     ensures inside { λ r. ⌜ r .at + r .len ≤ length (now (img .entry)) ⌝ }
 {
     let at = h.at.0;
-    let name = at + names::name_at(h.kind) as usize;
+    let name = at + slots::name_at(h.kind) as usize;
     let end = at + (64 * h.slots) as usize;
     Name {
         at: name,
@@ -98,7 +89,7 @@ pub fn path_is(img: &[u8], h: Head, path: &[u8]) -> bool
     requires { ⌜ HeadIn (now img) h ⌝ }
     ensures { λ r. ⌜ r ≡ liveAt (now (path .entry)) (headView (now (img .entry)) h) ⌝ }
 {
-    if !is_live(h.kind) {
+    if !slots::is_live(h.kind) {
         return false;
     }
     same_bytes(path_of(img, h), path)
@@ -120,7 +111,7 @@ fn lies_below(img: &[u8], h: Head, path: &[u8]) -> bool
     requires { ⌜ HeadIn (now img) h ⌝ }
     ensures { λ r. ⌜ r ≡ liveBelow (now (path .entry)) (headView (now (img .entry)) h) ⌝ }
 {
-    if !is_live(h.kind) {
+    if !slots::is_live(h.kind) {
         return false;
     }
     is_below(path, path_of(img, h))
@@ -130,7 +121,7 @@ fn lies_below(img: &[u8], h: Head, path: &[u8]) -> bool
 fn starts_from(h: Head, slot: u64) -> bool
     ensures { λ r. ⌜ r ≡ (liveType (h .kind) && leb slot (h .slot .0)) ⌝ }
 {
-    if !is_live(h.kind) {
+    if !slots::is_live(h.kind) {
         return false;
     }
     slot <= h.slot.0

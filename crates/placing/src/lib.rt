@@ -87,7 +87,7 @@ fn put_fields(img: &mut [u8], at: usize, h: Head)
     requires { ⌜ at + 24 ≤ length (now img) ⌝ }
     ensures { λ _. ⌜ now (img .exit) ≡ splice (now (img .entry)) at (pick (fileType (h .kind)) (leBytes 8 (h .start .0) ++ (leBytes 8 (h .end .0) ++ leBytes 8 (h .length))) []) ⌝ }
 {
-    if index::is_file(h.kind) {
+    if slots::is_file(h.kind) {
         put_file(img, at, h.start.0, h.end.0, h.length);
     }
 }
@@ -100,7 +100,7 @@ pub fn put_run(img: &mut [u8], h: Head, path: &[u8])
     let at = h.at.0;
     put_head(img, at, h.kind, h.slots, h.stamp);
     put_fields(img, at + HEAD, h);
-    let name = at + names::name_at(h.kind) as usize;
+    let name = at + slots::name_at(h.kind) as usize;
     copying::write_part(img, name, at + (64 * h.slots) as usize, path);
 }
 

@@ -42,7 +42,7 @@ pub fn lowest_unused(img: &[u8], from: Cursor, n: u64) -> Unused
     let mut left = from.left;
     let mut first = slot;
     while 0 < left {
-        if index::is_entry(img[at]) {
+        if slots::is_entry(img[at]) {
             let slots = index::head_at(img, at, slot).slots;
             at += (64 * slots) as usize;
             slot += slots;
@@ -154,7 +154,7 @@ fn plan_places(
     requires { ⌜ Opened (now img) g × Begins (now img) g from × Clear (now img) g (now path) ⌝ }
     ensures { λ r. ⌜ Planned (now (img .entry)) (newOf file (now (bytes .entry))) (now (path .entry)) (signedOf stamp) r ⌝ }
 {
-    let slots = 1 + names::continuing(kind_of(file), path.len() as u64);
+    let slots = 1 + slots::continuing(kind_of(file), path.len() as u64);
     match place_run(img, g, from, slots) {
         RunPlace::Nothing => Plan::Refused(15),
         RunPlace::At(slot, grown) => {

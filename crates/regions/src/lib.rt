@@ -64,7 +64,7 @@ pub fn region_good(g: Geometry, h: Head) -> bool
     requires { ⌜ Bounded g ⌝ }
     ensures { λ r. ⌜ ((s : List ℕ) → r ≡ regionGood (geometryView g) (headView s h)) ⌝ }
 {
-    if index::is_file(h.kind) {
+    if slots::is_file(h.kind) {
         return file_region_good(g, h);
     }
     if h.kind == 0x18 {

@@ -1,7 +1,8 @@
 // Block numbers, slot numbers and byte offsets: three units, converted only by the functions here.
 
 ghost use mathlib.Core.Path.{_≡_};
-ghost use Prim.Native.Nat.{_+_, _-_, _*_, _/_, _≤_, _<_};
+ghost use Prim.Native.Nat.{_+_, _-_, _*_, _/_, _≤_, _<_, max};
+ghost use lib.Dec.{ltb};
 
 // The longest image, in bytes: no offset lies past it.
 pub const LONGEST: u64 = 16_777_216;
@@ -19,6 +20,40 @@ pub struct Slot(pub u64);
 pub struct Offset(pub usize);
 
 impl Block {
+    // The block of this number, as it is stored or given.
+    pub fn at(n: u64) -> Block
+        ensures { λ r. ⌜ r .0 ≡ n ⌝ }
+    {
+        Block(n)
+    }
+
+    // Its number, as it is stored or given.
+    pub fn number(self) -> u64
+        ensures { λ r. ⌜ r ≡ self .0 ⌝ }
+    {
+        self.0
+    }
+
+    pub fn is_before(self, other: Block) -> bool
+        ensures { λ r. ⌜ r ≡ ltb (self .0) (other .0) ⌝ }
+    {
+        self.0 < other.0
+    }
+
+    // The later of the two.
+    pub fn later(self, other: Block) -> Block
+        ensures { λ r. ⌜ r .0 ≡ max (self .0) (other .0) ⌝ }
+    {
+        if self.0 < other.0 { other } else { self }
+    }
+
+    // How many blocks it lies past `from`, 0 where it does not.
+    pub fn blocks_past(self, from: Block) -> u64
+        ensures { λ r. ⌜ r ≡ self .0 - from .0 ⌝ }
+    {
+        if self.0 < from.0 { 0 } else { self.0 - from.0 }
+    }
+
     // The first byte of the block; `len` is the block length.
     pub fn offset(self, len: u64) -> Offset
         requires { ⌜ self .0 * len ≤ 16_777_216 ⌝ }
@@ -45,6 +80,34 @@ impl Block {
 }
 
 impl Slot {
+    // The slot of this number, as it is given.
+    pub fn at(n: u64) -> Slot
+        ensures { λ r. ⌜ r .0 ≡ n ⌝ }
+    {
+        Slot(n)
+    }
+
+    // Its number, as it is given.
+    pub fn number(self) -> u64
+        ensures { λ r. ⌜ r ≡ self .0 ⌝ }
+    {
+        self.0
+    }
+
+    pub fn is_before(self, other: Slot) -> bool
+        ensures { λ r. ⌜ r ≡ ltb (self .0) (other .0) ⌝ }
+    {
+        self.0 < other.0
+    }
+
+    // How many slots lie from here up to `end`.
+    pub fn slots_to(self, end: Slot) -> u64
+        requires { ⌜ self .0 ≤ end .0 ⌝ }
+        ensures { λ r. ⌜ r ≡ end .0 - self .0 ⌝ }
+    {
+        end.0 - self.0
+    }
+
     // The first byte of the slot, in an index area that starts at `index`.
     pub fn offset(self, index: Offset) -> Offset
         requires { ⌜ index .0 + 64 * self .0 ≤ 16_777_216 ⌝ }
@@ -63,6 +126,20 @@ impl Slot {
 }
 
 impl Offset {
+    // The place that lies so many bytes behind the start of the image.
+    pub fn at(n: usize) -> Offset
+        ensures { λ r. ⌜ r .0 ≡ n ⌝ }
+    {
+        Offset(n)
+    }
+
+    // The same as an index into the image.
+    pub fn index(self) -> usize
+        ensures { λ r. ⌜ r ≡ self .0 ⌝ }
+    {
+        self.0
+    }
+
     // The place so many bytes further.
     pub fn after(self, bytes: u64) -> Offset
         requires { ⌜ self .0 + bytes ≤ 16_777_216 ⌝ }

@@ -4,8 +4,8 @@ use Rattle.rules.specs.Lists.Laws.{or-right, or-none}
 use mathlib.Core.Path.{sym, _∙_}
 use borrow.Author.Tests.{eq-eqb, ne-eqb}
 use borrow.Author.Needs.{needs}
-use Rattle.index.proofs.is_entry.Statement.{statement}
-use Rattle.index.proofs.is_entry.Tie as tie
+use Rattle.slots.proofs.is_entry.Statement.{statement}
+use Rattle.slots.proofs.is_entry.Tie as tie
 
 returns : tie.Need-returns
 unfolding entryType

@@ -1,7 +1,7 @@
 use borrow.Author.Tests.{eq-eqb, ne-eqb}
 use Rattle.rules.specs.Index.{liveType}
-use Rattle.paths.proofs.is_live.Statement.{statement}
-use Rattle.paths.proofs.is_live.Tie as tie
+use Rattle.slots.proofs.is_live.Statement.{statement}
+use Rattle.slots.proofs.is_live.Tie as tie
 
 returns : tie.Need-returns
 unfolding liveType

@@ -1,7 +1,7 @@
 use Rattle.rules.specs.Index.{strayType}
 use borrow.Author.Tests.{eq-eqb, ne-eqb, le-leb, lt-leb}
-use Rattle.index.proofs.is_stray.Statement.{statement}
-use Rattle.index.proofs.is_stray.Tie as tie
+use Rattle.slots.proofs.is_stray.Statement.{statement}
+use Rattle.slots.proofs.is_stray.Tie as tie
 
 returns : tie.Need-returns
 unfolding strayType

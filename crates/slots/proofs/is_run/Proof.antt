@@ -1,8 +1,8 @@
 use Rattle.rules.specs.Index.{runType, directoryType}
 use borrow.Author.Tests.{eq-eqb, ne-eqb}
 use borrow.Author.Needs.{needs}
-use Rattle.index.proofs.is_run.Statement.{statement}
-use Rattle.index.proofs.is_run.Tie as tie
+use Rattle.slots.proofs.is_run.Statement.{statement}
+use Rattle.slots.proofs.is_run.Tie as tie
 
 returns : tie.Need-returns
 unfolding runType directoryType

@@ -1,7 +1,7 @@
 use Rattle.rules.specs.Index.{fileType}
 use borrow.Author.Tests.{eq-eqb, ne-eqb}
-use Rattle.index.proofs.is_file.Statement.{statement}
-use Rattle.index.proofs.is_file.Tie as tie
+use Rattle.slots.proofs.is_file.Statement.{statement}
+use Rattle.slots.proofs.is_file.Tie as tie
 
 returns : tie.Need-returns
 unfolding fileType
