@@ -1,5 +1,6 @@
 -- Small runs, from bytes to bytes: what the calls answer one after the other, and what they leave.
 use Prim.Native.Nat.{ℕ, _-_, _*_}
+use Prim.Native.String.{String}
 use mathlib.Core.Bool.{true}
 use mathlib.Core.Path.{_≡_, refl}
 use mathlib.Core.List.{List, [], _∷_, _++_}
@@ -33,12 +34,12 @@ refusals s (c ∷ cs) = refusalOf s c ∷ refusals (step s c .image) cs
 abbrev blank : ℕ → List ℕ
 blank n = replicate n 0
 
--- ---- 1,024 bytes, the least that can be formatted
+-- ---- 1,536 bytes, the least that can be formatted in blocks of 512
 abbrev formatSmall : Call
-formatSmall = format 256 2 (text "SMALL") (pos 5)
+formatSmall = format 512 1 (text "SMALL") (pos 5)
 
 abbrev small : List ℕ
-small = run (blank 1_024) (formatSmall ∷ [])
+small = run (blank 1_536) (formatSmall ∷ [])
 
 -- every byte that format writes
 pub small-bytes :
@@ -47,8 +48,8 @@ pub small-bytes :
     ++ ((5 ∷ blank 7)
     ++ (blank 8
     ++ ((128 ∷ blank 7)
-    ++ ((0x53 ∷ 0x46 ∷ 0x53 ∷ 0x10 ∷ 4 ∷ blank 7)
-    ++ ((2 ∷ 0 ∷ 0 ∷ 0 ∷ 1 ∷ 0xFD ∷ blank 450)
+    ++ ((0x53 ∷ 0x46 ∷ 0x53 ∷ 0x10 ∷ 3 ∷ blank 7)
+    ++ ((1 ∷ 0 ∷ 0 ∷ 0 ∷ 2 ∷ 0xFE ∷ blank 962)
     ++ ((0x02 ∷ blank 63)
     ++ ((0x01 ∷ 0 ∷ 0 ∷ 0 ∷ 5 ∷ blank 7)
     ++ (text "SMALL" ++ blank 47))))))))
@@ -61,9 +62,9 @@ pub small-open :
     ≡ done
     (record {
       version = 0x10;
-      total = 4;
-      reserved = 2;
-      blockLength = 256;
+      total = 3;
+      reserved = 1;
+      blockLength = 512;
       dataBlocks = 0;
       indexBytes = 128;
       stamp = pos 5;
@@ -88,7 +89,7 @@ comeAndGo =
     ∷ openVolume []
     ∷ []
 
-pub comeAndGo-refusals : refusals (blank 1_024) comeAndGo ≡ 0 ∷ 0 ∷ 0 ∷ 0 ∷ 11 ∷ 11 ∷ 0 ∷ 18 ∷ []
+pub comeAndGo-refusals : refusals (blank 1_536) comeAndGo ≡ 0 ∷ 0 ∷ 0 ∷ 0 ∷ 11 ∷ 11 ∷ 0 ∷ 18 ∷ []
 unfolding everything refusals refusalOf
 comeAndGo-refusals = refl
 
@@ -100,32 +101,39 @@ small-find = refl
 
 -- its slot is unused now, and in the super-block only the index size and the stamp of its growth are new
 pub comeAndGo-bytes :
-    run (blank 1_024) comeAndGo
-    ≡ splice (splice (splice small 0x194 (6 ∷ [])) 0x1A4 (192 ∷ [])) 832 ((0x02 ∷ blank 63) ++ (0x10 ∷ blank 63))
+    run (blank 1_536) comeAndGo
+    ≡ splice (splice (splice small 0x194 (6 ∷ [])) 0x1A4 (192 ∷ [])) 1_344 ((0x02 ∷ blank 63) ++ (0x10 ∷ blank 63))
 unfolding everything
 comeAndGo-bytes = refl
 
 -- ---- the last block: where a file holds it the index cannot grow into it, until the file is deleted and reclaimed
+abbrev empty : String → Call
+empty path = create (newFile []) (text path) (pos 7)
+
 pub last-block :
-    refusals (blank 1_024) (
+    refusals (blank 1_536) (
     formatSmall
-    ∷ create (newFile (replicate 256 0x61)) (text "big") (pos 6)
-    ∷ create (newFile []) (text "a") (pos 7)
-    ∷ create (newFile []) (text "b") (pos 8)
+    ∷ create (newFile (replicate 512 0x61)) (text "big") (pos 6)
+    ∷ empty "a"
+    ∷ empty "b"
+    ∷ empty "c"
+    ∷ empty "d"
+    ∷ empty "e"
+    ∷ empty "f"
     ∷ delete (text "big") (pos 9)
-    ∷ create (newFile []) (text "b") (pos 10)
+    ∷ empty "f"
     ∷ reclaim (pos 11)
-    ∷ create (newFile []) (text "b") (pos 12)
+    ∷ empty "f"
     ∷ [])
-    ≡ 0 ∷ 0 ∷ 0 ∷ 15 ∷ 0 ∷ 15 ∷ 0 ∷ 0 ∷ []
+    ≡ 0 ∷ 0 ∷ 0 ∷ 0 ∷ 0 ∷ 0 ∷ 0 ∷ 15 ∷ 0 ∷ 15 ∷ 0 ∷ 0 ∷ []
 unfolding everything refusals refusalOf
 last-block = refl
 
 -- ---- a deleted file's blocks are not free until they are reclaimed
 pub held-blocks :
-    refusals (blank 2_048) (
+    refusals (blank 3_072) (
     formatSmall
-    ∷ create (newFile (replicate 1_280 0x61)) (text "big") (pos 6)
+    ∷ create (newFile (replicate 2_048 0x61)) (text "big") (pos 6)
     ∷ create (newFile (text "b")) (text "a") (pos 7)
     ∷ delete (text "big") (pos 8)
     ∷ create (newFile (text "b")) (text "a") (pos 9)
@@ -139,8 +147,12 @@ held-blocks = refl
 -- ---- a file lies below the ceiling block after the growth: a name that takes five slots leaves no block
 pub after-growth :
     refusals small (
-    create (newFile (text "b")) (replicate 285 0x61) (pos 6) ∷ create (newFile (text "b")) (text "a") (pos 7) ∷ [])
-    ≡ 16 ∷ 0 ∷ []
+    empty "c"
+    ∷ empty "d"
+    ∷ create (newFile (text "b")) (replicate 285 0x61) (pos 6)
+    ∷ create (newFile (text "b")) (text "a") (pos 7)
+    ∷ [])
+    ≡ 0 ∷ 0 ∷ 16 ∷ 0 ∷ []
 unfolding everything refusals refusalOf
 after-growth = refl
 
@@ -158,22 +170,23 @@ named30-slots = refl
 abbrev formats : ℕ → ℕ → ℕ → ℕ → ℕ
 formats n bytesPerBlock reserved nameLength = formatOf (blank n) bytesPerBlock reserved (replicate nameLength 0x61) (pos 0) .refusal
 
--- the empty image, too short, no room for an index, the least; reserved too few, too many; block lengths; the name's length
+-- the empty image, too short, no room for an index, the least in two block lengths; reserved too few, too many; no block length, no whole
+-- number of blocks; the name's length
 pub format-refusals :
-    formats 0 256 2 0
-    ∷ formats 511 256 2 0
-    ∷ formats 512 256 2 0
-    ∷ formats 1_024 256 2 0
-    ∷ formats 1_024 256 1 0
-    ∷ formats 1_024 256 3 0
-    ∷ formats 1_024 300 2 0
+    formats 0 512 1 0
+    ∷ formats 511 512 1 0
+    ∷ formats 512 512 1 0
     ∷ formats 1_024 512 1 0
     ∷ formats 1_536 512 1 0
+    ∷ formats 1_024 256 2 0
+    ∷ formats 1_024 256 1 0
+    ∷ formats 1_536 512 2 0
+    ∷ formats 1_536 300 1 0
     ∷ formats 1_537 512 1 0
-    ∷ formats 1_024 256 2 51
-    ∷ formats 1_024 256 2 52
+    ∷ formats 1_536 512 1 51
+    ∷ formats 1_536 512 1 52
     ∷ []
-    ≡ 1 ∷ 1 ∷ 5 ∷ 0 ∷ 5 ∷ 5 ∷ 5 ∷ 5 ∷ 0 ∷ 5 ∷ 0 ∷ 10 ∷ []
+    ≡ 1 ∷ 1 ∷ 5 ∷ 5 ∷ 0 ∷ 0 ∷ 5 ∷ 5 ∷ 5 ∷ 5 ∷ 0 ∷ 10 ∷ []
 unfolding everything
 format-refusals = refl
 
@@ -253,9 +266,9 @@ listing-refused = refl
 -- ---- a history
 abbrev busyDay : List Call
 busyDay =
-    format 256 2 (text "DAY") (pos 0)
+    format 512 1 (text "DAY") (pos 0)
     ∷ create newDirectory (text "d") (pos 1)
-    ∷ create (newFile (replicate 257 7)) (text "d/a") (pos 2)
+    ∷ create (newFile (replicate 513 7)) (text "d/a") (pos 2)
     ∷ create (newFile []) (text "e") (pos 3)
     ∷ create (newFile (replicate 9 9)) (text "d/a") (pos 4)
     ∷ create newDirectory (text "x/y") (pos 5)
@@ -266,15 +279,15 @@ busyDay =
     ∷ create (newFile (text "b")) (text "d/a") (pos 9)
     ∷ []
 
-pub busyDay-refusals : refusals (blank 2_048) busyDay ≡ 0 ∷ 0 ∷ 0 ∷ 0 ∷ 12 ∷ 13 ∷ 14 ∷ 0 ∷ 11 ∷ 0 ∷ 0 ∷ []
+pub busyDay-refusals : refusals (blank 3_072) busyDay ≡ 0 ∷ 0 ∷ 0 ∷ 0 ∷ 12 ∷ 13 ∷ 14 ∷ 0 ∷ 11 ∷ 0 ∷ 0 ∷ []
 unfolding everything refusals refusalOf
 busyDay-refusals = refl
 
 -- only what was accepted is told, and two blocks came back
 pub busyDay-told :
-    told (blank 2_048) nothing busyDay
+    told (blank 3_072) nothing busyDay
     ≡ record {
-      blockBytes = 256;
+      blockBytes = 512;
       kept =
           record { path = text "d/a"; kind = typeFile; bytes = text "b"; blocks = 1; live = true }
           ∷ record { path = text "e"; kind = typeFile; bytes = []; blocks = 0; live = true }
@@ -287,7 +300,7 @@ unfolding everything
 busyDay-told = refl
 
 pub busyDay-listing :
-    listingOf (run (blank 2_048) busyDay)
+    listingOf (run (blank 3_072) busyDay)
     ≡ text "DAY\nF 0 1970-01-01T00:00:00Z e\nF 1 1970-01-01T00:00:00Z d/a\nD 0 1970-01-01T00:00:00Z d\nlive 3 held 1\n"
 unfolding everything
 busyDay-listing = refl
@@ -297,7 +310,7 @@ busyDay-listing = refl
 abbrev whole : List ℕ
 whole =
     run (blank 2_048) (
-    format 256 2 [] (pos 0)
+    format 512 1 [] (pos 0)
     ∷ create newDirectory (text "d") (pos 1)
     ∷ create (newFile (text "b")) (text "d/f") (pos 2)
     ∷ [])
@@ -318,9 +331,9 @@ pub damaged-refusals :
     ∷ damaged 1_856 (0x01 ∷ [])  -- an identifier elsewhere
     ∷ damaged 1_857 (2 ∷ [])  -- a run over the identifier
     ∷ damaged 1_890 (text "//f")  -- an empty part
-    ∷ damaged 1_874 (2 ∷ [])  -- the end is the start
-    ∷ damaged 1_874 (4 ∷ [])  -- the end is past the data area
-    ∷ damaged 1_882 (1 ∷ 1 ∷ [])  -- 257 bytes in a block
+    ∷ damaged 1_874 (1 ∷ [])  -- the end is the start
+    ∷ damaged 1_874 (3 ∷ [])  -- the end is past the data area
+    ∷ damaged 1_882 (1 ∷ 2 ∷ [])  -- 513 bytes in a block
     ∷ damaged 1_857 (1 ∷ [])  -- the directory's slot continues the file's name
     ∷ damaged 1_920 (0x19 ∷ [])  -- the directory is deleted
     ∷ damaged 1_890 (text "d\0")  -- two of one path
@@ -332,7 +345,7 @@ damaged-refusals = refl
 
 -- a later version is read and formatted, and not written
 pub later-version :
-    refusals (splice (splice whole 0x1AF (0x11 ∷ [])) 0x1BD (0xF8 ∷ [])) (
+    refusals (splice (splice whole 0x1AF (0x11 ∷ [])) 0x1BD (0xFC ∷ [])) (
     openVolume []
     ∷ find (text "d")
     ∷ list 0 (blank 3)
@@ -340,7 +353,7 @@ pub later-version :
     ∷ create newDirectory [] (pos 3)
     ∷ delete (text "none") (pos 4)
     ∷ reclaim (pos 5)
-    ∷ format 256 2 [] (pos 6)
+    ∷ format 512 1 [] (pos 6)
     ∷ [])
     ≡ 0 ∷ 0 ∷ 0 ∷ 17 ∷ 9 ∷ 9 ∷ 9 ∷ 0 ∷ []
 unfolding everything refusals refusalOf

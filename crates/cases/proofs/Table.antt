@@ -24,9 +24,9 @@ row g w = record { got = g; wanted = w }
 abbrev floppy : Geometry
 floppy = record { stamp = pos 0; dataBlocks = 0; indexBytes = 128; version = 0x10; total = 2_880; reserved = 2; blockField = 2 }
 
--- freshly formatted, 2 blocks reserved: 1,024 bytes in blocks of 256, and 65,536 bytes in blocks of 512
+-- freshly formatted in blocks of 512: 1,536 bytes with 1 block reserved, and 65,536 bytes with 2
 abbrev small : List ℕ
-small = formatOf (replicate 1_024 0) 256 2 (text "SMALL") (pos 0) .image
+small = formatOf (replicate 1_536 0) 512 1 (text "SMALL") (pos 0) .image
 
 abbrev large : List ℕ
 large = formatOf (replicate 65_536 0) 512 2 (text "TERM7") (pos 0) .image
