@@ -6,20 +6,78 @@
 #include <stdlib.h>
 #include <string.h>
 
-_Static_assert(sizeof(struct sfs_volume) == 72, "sfs_volume");
-_Static_assert(offsetof(struct sfs_volume, refusal) == 0, "sfs_volume.refusal");
-_Static_assert(offsetof(struct sfs_volume, version) == 4, "sfs_volume.version");
-_Static_assert(offsetof(struct sfs_volume, total) == 8, "sfs_volume.total");
-_Static_assert(offsetof(struct sfs_volume, index) == 40, "sfs_volume.index");
-_Static_assert(offsetof(struct sfs_volume, volume_stamp) == 56, "sfs_volume.volume_stamp");
-_Static_assert(offsetof(struct sfs_volume, name_length) == 64, "sfs_volume.name_length");
-_Static_assert(sizeof(struct sfs_entry) == 48, "sfs_entry");
-_Static_assert(offsetof(struct sfs_entry, kind) == 4, "sfs_entry.kind");
-_Static_assert(offsetof(struct sfs_entry, stamp) == 40, "sfs_entry.stamp");
-_Static_assert(sizeof(struct sfs_listed) == 56, "sfs_listed");
-_Static_assert(offsetof(struct sfs_listed, path_length) == 48, "sfs_listed.path_length");
-_Static_assert(sizeof(struct sfs_content) == 16, "sfs_content");
-_Static_assert(offsetof(struct sfs_content, length) == 8, "sfs_content.length");
+/* A field's place, and its type: so its width and its sign. */
+#define FIELD(name, field, place, type) \
+    _Static_assert(offsetof(struct name, field) == (place), #name "." #field " is elsewhere"); \
+    _Static_assert(_Generic(((struct name *)0)->field, type: 1, default: 0), #name "." #field " is no " #type)
+#define SIZE(name, bytes) _Static_assert(sizeof(struct name) == (bytes), #name)
+#define NUMBER(name, value) _Static_assert((name) == (value), #name)
+
+FIELD(sfs_volume, refusal, 0, uint32_t);
+FIELD(sfs_volume, version, 4, uint32_t);
+FIELD(sfs_volume, total, 8, uint64_t);
+FIELD(sfs_volume, reserved, 16, uint64_t);
+FIELD(sfs_volume, block_length, 24, uint64_t);
+FIELD(sfs_volume, data, 32, uint64_t);
+FIELD(sfs_volume, index, 40, uint64_t);
+FIELD(sfs_volume, stamp, 48, int64_t);
+FIELD(sfs_volume, volume_stamp, 56, int64_t);
+FIELD(sfs_volume, name_length, 64, uint64_t);
+SIZE(sfs_volume, 72);
+
+FIELD(sfs_entry, refusal, 0, uint32_t);
+FIELD(sfs_entry, kind, 4, uint32_t);
+FIELD(sfs_entry, slot, 8, uint64_t);
+FIELD(sfs_entry, start, 16, uint64_t);
+FIELD(sfs_entry, end, 24, uint64_t);
+FIELD(sfs_entry, length, 32, uint64_t);
+FIELD(sfs_entry, stamp, 40, int64_t);
+SIZE(sfs_entry, 48);
+
+FIELD(sfs_listed, refusal, 0, uint32_t);
+FIELD(sfs_listed, kind, 4, uint32_t);
+FIELD(sfs_listed, slot, 8, uint64_t);
+FIELD(sfs_listed, start, 16, uint64_t);
+FIELD(sfs_listed, end, 24, uint64_t);
+FIELD(sfs_listed, length, 32, uint64_t);
+FIELD(sfs_listed, stamp, 40, int64_t);
+FIELD(sfs_listed, path_length, 48, uint64_t);
+SIZE(sfs_listed, 56);
+
+FIELD(sfs_content, refusal, 0, uint32_t);
+FIELD(sfs_content, length, 8, uint64_t);
+SIZE(sfs_content, 16);
+
+NUMBER(SFS_OK, 0);
+NUMBER(SFS_IMAGE_LENGTH, 1);
+NUMBER(SFS_MAGIC, 2);
+NUMBER(SFS_VERSION, 3);
+NUMBER(SFS_CHECKSUM, 4);
+NUMBER(SFS_GEOMETRY, 5);
+NUMBER(SFS_INDEX, 6);
+NUMBER(SFS_REGIONS, 7);
+NUMBER(SFS_PATHS, 8);
+NUMBER(SFS_READ_ONLY, 9);
+NUMBER(SFS_NAME, 10);
+NUMBER(SFS_NOT_FOUND, 11);
+NUMBER(SFS_EXISTS, 12);
+NUMBER(SFS_NO_DIRECTORY, 13);
+NUMBER(SFS_NOT_EMPTY, 14);
+NUMBER(SFS_NO_SLOTS, 15);
+NUMBER(SFS_NO_BLOCKS, 16);
+NUMBER(SFS_NOT_A_FILE, 17);
+NUMBER(SFS_OUTPUT_TOO_SHORT, 18);
+NUMBER(SFS_DIRECTORY, 0x11);
+NUMBER(SFS_FILE, 0x12);
+NUMBER(SFS_IMAGE_MIN, 512);
+NUMBER(SFS_IMAGE_MAX, 16777216);
+NUMBER(SFS_FORMAT_MIN, 1024);
+NUMBER(SFS_PATH_MAX, 285);
+NUMBER(SFS_VOLUME_NAME_MAX, 51);
+NUMBER(SFS_SLOT_BYTES, 64);
+NUMBER(SFS_INDEX_MAX, 262144);
+NUMBER(SFS_LISTING_IMAGE_MAX, 65536);
+NUMBER(SFS_LISTING_ROOM, 131072);
 
 static int passed, failed;
 
@@ -36,31 +94,38 @@ static int passed, failed;
 /* A string literal as a slice. */
 #define B(text) (const uint8_t *)(text), sizeof(text) - 1
 
-static const struct sfs_volume no_volume;
-static const struct sfs_entry no_entry;
-static const struct sfs_listed none_listed;
-static const struct sfs_content no_content;
+/* Answers compared with the wanted ones, in every field; the first three structs have no padding. */
+static int volume_is(struct sfs_volume a, struct sfs_volume wanted) {
+    return memcmp(&a, &wanted, sizeof a) == 0;
+}
 
+static int entry_is(struct sfs_entry a, struct sfs_entry wanted) {
+    return memcmp(&a, &wanted, sizeof a) == 0;
+}
+
+static int listed_is(struct sfs_listed a, struct sfs_listed wanted) {
+    return memcmp(&a, &wanted, sizeof a) == 0;
+}
+
+static int content_is(struct sfs_content a, struct sfs_content wanted) {
+    return a.refusal == wanted.refusal && a.length == wanted.length;
+}
+
+/* The refusal, and zeros. */
 static int zero_volume(struct sfs_volume a, uint32_t refusal) {
-    struct sfs_volume z = no_volume;
-    z.refusal = refusal;
-    return memcmp(&a, &z, sizeof a) == 0;
+    return volume_is(a, (struct sfs_volume){.refusal = refusal});
 }
 
 static int zero_entry(struct sfs_entry a, uint32_t refusal) {
-    struct sfs_entry z = no_entry;
-    z.refusal = refusal;
-    return memcmp(&a, &z, sizeof a) == 0;
+    return entry_is(a, (struct sfs_entry){.refusal = refusal});
 }
 
 static int zero_listed(struct sfs_listed a, uint32_t refusal) {
-    struct sfs_listed z = none_listed;
-    z.refusal = refusal;
-    return memcmp(&a, &z, sizeof a) == 0;
+    return listed_is(a, (struct sfs_listed){.refusal = refusal});
 }
 
 static int zero_content(struct sfs_content a, uint32_t refusal) {
-    return a.refusal == refusal && a.length == no_content.length;
+    return content_is(a, (struct sfs_content){.refusal = refusal});
 }
 
 /* An image of zeros in memory of exactly its size, so that an access past its ends is noticed by the sanitizer. */
@@ -86,10 +151,10 @@ static void empty_slices(void) {
     CHECK(memcmp(out, "\1\2\3\4", 4) == 0);
 }
 
-static void formats(void) {
+static void formats_refused(void) {
     uint8_t *image = new_image(65536), *before = new_image(65536);
     memset(image, 0x5A, 65536);
-    memcpy(before, image, 65536);
+    memset(before, 0x5A, 65536);
     CHECK(sfs_format(image, 511, 512, 2, B("A"), 0) == SFS_IMAGE_LENGTH);
     CHECK(sfs_format(image, 65536, 500, 2, B("A"), 0) == SFS_GEOMETRY);
     CHECK(sfs_format(image, 65536, 0, 2, B("A"), 0) == SFS_GEOMETRY);
@@ -98,12 +163,20 @@ static void formats(void) {
     CHECK(sfs_format(image, 65536, 256, 1, B("A"), 0) == SFS_GEOMETRY);
     CHECK(sfs_format(image, 65536, 512, 2, B("a/b"), 0) == SFS_NAME);
     CHECK(memcmp(image, before, 65536) == 0);
+    free(image);
+    free(before);
+}
+
+static void formats(void) {
+    uint8_t *image = new_image(65536), *before = new_image(65536);
+    memset(image, 0x5A, 65536);
+    memset(before, 0x5A, 65536);
     CHECK(sfs_format(image, 65536, 512, 2, B("TERM7"), -5) == SFS_OK);
     CHECK(memcmp(image, before, 0x194) == 0);
     CHECK(memcmp(image + 0x1BE, before + 0x1BE, 65536 - 128 - 0x1BE) == 0);
-    struct sfs_volume v = sfs_open(image, 65536, before, 5);
-    CHECK(v.refusal == SFS_OK && v.version == 0x10 && v.total == 128 && v.reserved == 2 && v.block_length == 512);
-    CHECK(v.data == 0 && v.index == 128 && v.stamp == -5 && v.volume_stamp == -5 && v.name_length == 5);
+    CHECK(volume_is(sfs_open(image, 65536, before, 5),
+                    (struct sfs_volume){.version = 0x10, .total = 128, .reserved = 2, .block_length = 512, .index = 128,
+                                        .stamp = -5, .volume_stamp = -5, .name_length = 5}));
     CHECK(memcmp(before, "TERM7\x5A", 6) == 0);
     CHECK(zero_volume(sfs_open(image, 65536, before, 4), SFS_OUTPUT_TOO_SHORT));
     CHECK(zero_volume(sfs_open(image, 65535, before, 65536), SFS_GEOMETRY));
@@ -116,34 +189,107 @@ static void formats(void) {
     free(before);
 }
 
-static void files(void) {
+/*
+ * A volume each of whose calls had a stamp of its own: the directory d is in slot 3, d/first (2,100 bytes) in slot 2 and
+ * d/the-second (1,000 bytes) in slot 1. The wanted answers have no number twice, so fields exchanged would show.
+ */
+enum { FORMATTED = -1001, MADE = 2002, FIRST = -3003, SECOND = 4004, DELETED = -5005, RECLAIMED = -6006, LATER = 7007 };
+
+static const struct sfs_volume stamped_volume = {.version = 0x10, .total = 128, .reserved = 3, .block_length = 512, .data = 7,
+    .index = 320, .stamp = SECOND, .volume_stamp = FORMATTED, .name_length = 6};
+
+static uint8_t *stamped(void) {
+    uint8_t *image = new_image(65536), bytes[2100];
+    memset(bytes, 0xA5, sizeof bytes);
+    CHECK(sfs_format(image, 65536, 512, 3, B("VOLUME"), FORMATTED) == SFS_OK);
+    CHECK(sfs_create_directory(image, 65536, B("d"), MADE) == SFS_OK);
+    CHECK(sfs_create_file(image, 65536, B("d/first"), bytes, 2100, FIRST) == SFS_OK);
+    CHECK(sfs_create_file(image, 65536, B("d/the-second"), bytes, 1000, SECOND) == SFS_OK);
+    return image;
+}
+
+static void every_field(void) {
+    uint8_t *image = stamped(), *out = new_image(2101);
+    CHECK(volume_is(sfs_open(image, 65536, out, 6), stamped_volume));
+    CHECK(entry_is(sfs_find(image, 65536, B("d/first")),
+                   (struct sfs_entry){.kind = SFS_FILE, .slot = 2, .start = 3, .end = 8, .length = 2100, .stamp = FIRST}));
+    CHECK(entry_is(sfs_find(image, 65536, B("d/the-second")),
+                   (struct sfs_entry){.kind = SFS_FILE, .slot = 1, .start = 8, .end = 10, .length = 1000, .stamp = SECOND}));
+    CHECK(entry_is(sfs_find(image, 65536, B("d")), (struct sfs_entry){.kind = SFS_DIRECTORY, .slot = 3, .stamp = MADE}));
+    CHECK(listed_is(sfs_list(image, 65536, 0, out, 12),
+                    (struct sfs_listed){.kind = SFS_FILE, .slot = 1, .start = 8, .end = 10, .length = 1000, .stamp = SECOND,
+                                        .path_length = 12}));
+    CHECK(listed_is(sfs_list(image, 65536, 2, out, 12),
+                    (struct sfs_listed){.kind = SFS_FILE, .slot = 2, .start = 3, .end = 8, .length = 2100, .stamp = FIRST,
+                                        .path_length = 7}));
+    CHECK(listed_is(sfs_list(image, 65536, 3, out, 12),
+                    (struct sfs_listed){.kind = SFS_DIRECTORY, .slot = 3, .stamp = MADE, .path_length = 1}));
+    CHECK(content_is(sfs_read(image, 65536, B("d/first"), out, 2101), (struct sfs_content){.length = 2100}));
+    CHECK(out[0] == 0xA5 && out[2099] == 0xA5 && out[2100] == 0);
+    free(image);
+    free(out);
+}
+
+/* A delete changes the type and the stamp of its entry, nine bytes; a reclaim gives its own stamp where a size changes. */
+static void stamps_of_writes(void) {
+    uint8_t *image = stamped(), *before = stamped(), *slot = before + 65536 - 320 + 64, out[6];
+    CHECK(sfs_delete(image, 65536, B("d/the-second"), DELETED) == SFS_OK);
+    memcpy(slot, "\x1A\0\x73\xEC\xFF\xFF\xFF\xFF\xFF\xFF", 10);
+    CHECK(memcmp(image, before, 65536) == 0);
+    CHECK(volume_is(sfs_open(image, 65536, out, 6), stamped_volume));
+    struct sfs_volume trimmed = stamped_volume;
+    trimmed.data = 5;
+    trimmed.stamp = RECLAIMED;
+    CHECK(sfs_reclaim(image, 65536, RECLAIMED) == SFS_OK);
+    CHECK(volume_is(sfs_open(image, 65536, out, 6), trimmed));
+    CHECK(sfs_reclaim(image, 65536, LATER) == SFS_OK);
+    CHECK(volume_is(sfs_open(image, 65536, out, 6), trimmed));
+    CHECK(sfs_create_directory(image, 65536, B("e"), LATER) == SFS_OK);
+    CHECK(volume_is(sfs_open(image, 65536, out, 6), trimmed));
+    CHECK(entry_is(sfs_find(image, 65536, B("e")), (struct sfs_entry){.kind = SFS_DIRECTORY, .slot = 1, .stamp = LATER}));
+    free(image);
+    free(before);
+}
+
+/* Terminal 7's volume with the directory session and the file session/verified. */
+static uint8_t *session(void) {
     uint8_t *image = new_image(65536);
-    uint8_t out[16];
     CHECK(sfs_format(image, 65536, 512, 2, B("TERM7"), 0) == SFS_OK);
-    CHECK(sfs_create_file(image, 65536, B("session/verified"), B("yes"), -1) == SFS_NO_DIRECTORY);
     CHECK(sfs_create_directory(image, 65536, B("session"), 0x3C0000) == SFS_OK);
-    CHECK(sfs_create_directory(image, 65536, B("session"), 0x3C0000) == SFS_EXISTS);
     CHECK(sfs_create_file(image, 65536, B("session/verified"), B("yes"), -1) == SFS_OK);
+    return image;
+}
+
+static void creates_refused(void) {
+    uint8_t *image = session(), *before = session();
+    CHECK(sfs_create_file(image, 65536, B("other/verified"), B("yes"), -1) == SFS_NO_DIRECTORY);
+    CHECK(sfs_create_directory(image, 65536, B("session"), 0x3C0000) == SFS_EXISTS);
     CHECK(sfs_create_file(image, 65536, B("session//x"), B("yes"), -1) == SFS_NAME);
     CHECK(sfs_create_file(image, 65536, NULL, 0, NULL, 0, 0) == SFS_NAME);
-    struct sfs_entry e = sfs_find(image, 65536, B("session/verified"));
-    CHECK(e.refusal == SFS_OK && e.kind == SFS_FILE && e.slot == 1 && e.start == 2 && e.end == 3);
-    CHECK(e.length == 3 && e.stamp == -1);
+    CHECK(memcmp(image, before, 65536) == 0);
+    free(image);
+    free(before);
+}
+
+static void reads(void) {
+    uint8_t *image = session(), out[16];
+    memset(out, 7, sizeof out);
     CHECK(zero_entry(sfs_find(image, 65536, B("session/absent")), SFS_NOT_FOUND));
     CHECK(zero_entry(sfs_find(image, 65536, B("..")), SFS_NAME));
-    memset(out, 7, sizeof out);
-    struct sfs_content c = sfs_read(image, 65536, B("session/verified"), out, 3);
-    CHECK(c.refusal == SFS_OK && c.length == 3 && memcmp(out, "yes\7", 4) == 0);
+    CHECK(content_is(sfs_read(image, 65536, B("session/verified"), out, 3), (struct sfs_content){.length = 3}));
+    CHECK(memcmp(out, "yes\7", 4) == 0);
     CHECK(zero_content(sfs_read(image, 65536, B("session"), out, 16), SFS_NOT_A_FILE));
     CHECK(zero_content(sfs_read(image, 65536, B("session/verified"), out, 2), SFS_OUTPUT_TOO_SHORT));
-    struct sfs_listed l = sfs_list(image, 65536, 0, out, 16);
-    CHECK(l.refusal == SFS_OK && l.kind == SFS_FILE && l.slot == 1 && l.path_length == 16);
+    CHECK(sfs_list(image, 65536, 0, out, 16).path_length == 16);
     CHECK(memcmp(out, "session/verified", 16) == 0);
-    l = sfs_list(image, 65536, 2, out, 16);
-    CHECK(l.refusal == SFS_OK && l.kind == SFS_DIRECTORY && l.slot == 2 && l.path_length == 7);
     CHECK(zero_listed(sfs_list(image, 65536, 3, NULL, 0), SFS_OK));
     CHECK(zero_listed(sfs_list(image, 65536, UINT64_MAX, out, 16), SFS_OK));
     CHECK(zero_listed(sfs_list(image, 65536, 1, out, 15), SFS_OUTPUT_TOO_SHORT));
+    free(image);
+}
+
+static void deletes(void) {
+    uint8_t *image = session(), out[16];
     CHECK(sfs_delete(image, 65536, B("session"), 1) == SFS_NOT_EMPTY);
     CHECK(sfs_delete(image, 65536, B("session/verified"), 1) == SFS_OK);
     CHECK(sfs_delete(image, 65536, B("session/verified"), 1) == SFS_NOT_FOUND);
@@ -215,8 +361,13 @@ static void listing(void) {
 
 int main(void) {
     empty_slices();
+    formats_refused();
     formats();
-    files();
+    every_field();
+    stamps_of_writes();
+    creates_refused();
+    reads();
+    deletes();
     full_volume();
     listing();
     printf("%d passed, %d failed\n", passed, failed);

@@ -1,7 +1,7 @@
 //! The proved library behind its C interface, as declared in `include/sfs.h`.
 
 use second::store::Store;
-use second::{Found, Listed, Opened, Read, Written};
+use second::{Found, Opened, Read, Written};
 
 #[repr(C)]
 struct Volume {
@@ -29,7 +29,7 @@ struct Entry {
 }
 
 #[repr(C)]
-struct ListedEntry {
+struct Listed {
     refusal: u32,
     kind: u32,
     slot: u64,
@@ -47,16 +47,32 @@ struct Content {
 }
 
 extern "C" {
-    fn sfs_format(image: *mut u8, n: usize, block: u64, reserved: u64, name: *const u8, m: usize, stamp: i64) -> u32;
-    fn sfs_open(image: *const u8, n: usize, out: *mut u8, m: usize) -> Volume;
-    fn sfs_find(image: *const u8, n: usize, path: *const u8, m: usize) -> Entry;
-    fn sfs_list(image: *const u8, n: usize, slot: u64, out: *mut u8, m: usize) -> ListedEntry;
-    fn sfs_read(image: *const u8, n: usize, path: *const u8, m: usize, out: *mut u8, k: usize) -> Content;
-    fn sfs_create_file(image: *mut u8, n: usize, path: *const u8, m: usize, bytes: *const u8, k: usize, stamp: i64) -> u32;
-    fn sfs_create_directory(image: *mut u8, n: usize, path: *const u8, m: usize, stamp: i64) -> u32;
-    fn sfs_delete(image: *mut u8, n: usize, path: *const u8, m: usize, stamp: i64) -> u32;
-    fn sfs_reclaim(image: *mut u8, n: usize, stamp: i64) -> u32;
-    fn sfs_listing(image: *const u8, n: usize, out: *mut u8, m: usize) -> u64;
+    fn sfs_format(
+        image: *mut u8,
+        image_len: usize,
+        bytes_per_block: u64,
+        reserved: u64,
+        name: *const u8,
+        name_len: usize,
+        stamp: i64,
+    ) -> u32;
+    fn sfs_open(image: *const u8, image_len: usize, out: *mut u8, out_len: usize) -> Volume;
+    fn sfs_find(image: *const u8, image_len: usize, path: *const u8, path_len: usize) -> Entry;
+    fn sfs_list(image: *const u8, image_len: usize, slot: u64, out: *mut u8, out_len: usize) -> Listed;
+    fn sfs_read(image: *const u8, image_len: usize, path: *const u8, path_len: usize, out: *mut u8, out_len: usize) -> Content;
+    fn sfs_create_file(
+        image: *mut u8,
+        image_len: usize,
+        path: *const u8,
+        path_len: usize,
+        bytes: *const u8,
+        bytes_len: usize,
+        stamp: i64,
+    ) -> u32;
+    fn sfs_create_directory(image: *mut u8, image_len: usize, path: *const u8, path_len: usize, stamp: i64) -> u32;
+    fn sfs_delete(image: *mut u8, image_len: usize, path: *const u8, path_len: usize, stamp: i64) -> u32;
+    fn sfs_reclaim(image: *mut u8, image_len: usize, stamp: i64) -> u32;
+    fn sfs_listing(image: *const u8, image_len: usize, out: *mut u8, out_len: usize) -> u64;
 }
 
 /// Room for the text of any image that the listing program takes.
@@ -104,9 +120,9 @@ impl Store for Library {
         }
     }
 
-    fn list(&self, image: &[u8], slot: u64, out: &mut [u8]) -> Listed {
+    fn list(&self, image: &[u8], slot: u64, out: &mut [u8]) -> second::Listed {
         let a = unsafe { sfs_list(image.as_ptr(), image.len(), slot, out.as_mut_ptr(), out.len()) };
-        Listed {
+        second::Listed {
             refusal: a.refusal as u8,
             slot: a.slot,
             kind: a.kind as u8,
@@ -119,9 +135,7 @@ impl Store for Library {
     }
 
     fn read(&self, image: &[u8], path: &[u8], out: &mut [u8]) -> Read {
-        let a = unsafe {
-            sfs_read(image.as_ptr(), image.len(), path.as_ptr(), path.len(), out.as_mut_ptr(), out.len())
-        };
+        let a = unsafe { sfs_read(image.as_ptr(), image.len(), path.as_ptr(), path.len(), out.as_mut_ptr(), out.len()) };
         Read { refusal: a.refusal as u8, length: a.length }
     }
 
