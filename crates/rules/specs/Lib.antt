@@ -11,5 +11,6 @@ pub mod Outcome
 pub mod Reading
 pub mod Writing
 pub mod History
+pub mod Text
 pub mod Dates
 pub mod Listing
