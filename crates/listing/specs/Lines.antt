@@ -1,5 +1,6 @@
 -- The listing's text, one entry at a time, and as its writers cut it.
 use Prim.Native.Nat.{ℕ, _+_, _≤_}
+use Prim.Native.Char.{code}
 use mathlib.Core.Path.{_≡_, refl, sym, ap, _∙_}
 use mathlib.Core.Bool.{Bool, true, false}
 use mathlib.Core.List.{List, [], _∷_, _++_}
@@ -11,7 +12,8 @@ use Rattle.rules.specs.Fields.{splice, signedOf}
 use Rattle.rules.specs.Fields.Laws.{splice-nil, splice-splice, length-splice}
 use Rattle.rules.specs.Index.{Entry, fileType, liveType, volumeName}
 use Rattle.rules.specs.Paths.{isLive}
-use Rattle.rules.specs.Dates.{decimal, momentOf, momentText}
+use Rattle.rules.specs.Text.{text, decimal}
+use Rattle.rules.specs.Dates.{momentOf, momentText}
 use Rattle.rules.specs.Listing.{lineOf, linesOf}
 use Rattle.text.specs.Wrote.{Wrote}
 use Rattle.index.specs.declared.Head.{Head}
@@ -19,18 +21,18 @@ use Rattle.index.specs.View.{headView}
 
 -- ---- a line's parts
 abbrev pub markOf : ℕ → ℕ
-markOf t = pick (fileType t) 0x46 0x44
+markOf t = pick (fileType t) (code "F") (code "D")
 
 -- mark and length
 abbrev pub numbersText : ℕ → ℕ → List ℕ
-numbersText t n = markOf t ∷ 0x20 ∷ decimal n
+numbersText t n = markOf t ∷ (text " " ++ decimal n)
 
 -- from the bits of a stamp
 abbrev pub dateText : ℕ → List ℕ
-dateText z = 0x20 ∷ momentText (momentOf (signedOf z))
+dateText z = text " " ++ momentText (momentOf (signedOf z))
 
 abbrev pub pathText : List ℕ → List ℕ
-pathText p = 0x20 ∷ (p ++ (0x0A ∷ []))
+pathText p = text " " ++ (p ++ text "\n")
 
 module _ (s : List ℕ) (h : Head) where
   pub line-parts : lineOf (headView s h) ≡ numbersText (h .kind) (h .length) ++ (dateText (h .stamp) ++ pathText (headView s h .path))

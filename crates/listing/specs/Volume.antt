@@ -10,7 +10,7 @@ use Rattle.rules.specs.Lists.{only}
 use Rattle.rules.specs.Index.{Entry, volumeName, itemsOf}
 use Rattle.rules.specs.Regions.{heldBlocks}
 use Rattle.rules.specs.Paths.{isLive}
-use Rattle.rules.specs.Dates.{decimal}
+use Rattle.rules.specs.Text.{text, joined, decimal}
 use Rattle.rules.specs.Refusals.{Volume, refused, accepted, entries, judge}
 use Rattle.rules.specs.Refusals.Laws.{need-true, need-false, judge-opens}
 use Rattle.rules.specs.Listing.{countLine, refusedLine, volumeText, listingOf}
@@ -28,9 +28,7 @@ use Rattle.listing.specs.Lines.{liveText}
 
 -- `live N held M`
 abbrev pub countText : ℕ → ℕ → List ℕ
-countText live held =
-    (0x6C ∷ 0x69 ∷ 0x76 ∷ 0x65 ∷ 0x20 ∷ decimal live)
-    ++ (0x20 ∷ 0x68 ∷ 0x65 ∷ 0x6C ∷ 0x64 ∷ 0x20 ∷ (decimal held ++ (0x0A ∷ [])))
+countText live held = joined (text "live " ∷ decimal live ∷ text " held " ∷ decimal held ∷ text "\n" ∷ [])
 
 pub count-is : (es : List Entry) (live held : ℕ) → live ≡ length (only isLive es) → held ≡ heldBlocks es → countText live held ≡ countLine es
 unfolding countLine
@@ -40,7 +38,7 @@ pub count-length : (live held : ℕ) → length (countText live held) ≡ 12 + (
 count-length live held = simp length-append (omega arith)
 
 abbrev pub nameText : List ℕ → List ℕ
-nameText s = volumeName s ++ (0x0A ∷ [])
+nameText s = volumeName s ++ text "\n"
 
 -- a program lends the name by its place and length
 pub lent-volume : (s : List ℕ) → 64 ≤ length s → (n : ℕ) → n ≡ length (volumeName s) → take (length s - 52 + n - (length s - 52)) (drop (length s - 52) s) ≡ volumeName s

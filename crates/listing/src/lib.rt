@@ -16,7 +16,7 @@ ghost use mathlib.Core.List.{List, [], _∷_, _++_};
 ghost use Prim.Native.Nat.{ℕ, _+_, _^_, _≤_, _<_};
 ghost use lib.ListN.{length, take};
 ghost use Rattle.rules.specs.Lists.{only};
-ghost use Rattle.rules.specs.Dates.{decimal};
+ghost use Rattle.rules.specs.Text.{decimal};
 ghost use Rattle.rules.specs.Index.{runType};
 ghost use Rattle.rules.specs.Paths.{isLive};
 ghost use Rattle.rules.specs.Regions.{heldBlocks};

@@ -1,5 +1,6 @@
 -- Laws of numbers as text: digit by digit, and how many bytes they take.
 use Prim.Native.Nat.{ℕ, zero, suc, _+_, _-_, _/_, _^_, _≤_, _<_}
+use Prim.Native.Char.{code}
 use mathlib.Core.Path.{_≡_, refl, sym, ap, _∙_}
 use mathlib.Core.List.{List, [], _∷_, _++_, append-assoc}
 use native.Mathlib.Decide.{decLt}
@@ -73,7 +74,7 @@ decimal-64 n h = decimal-length 20 n (omega arith) (omega arith)
 module _ (w n : ℕ) where
   pub wide-length : length (widened w (decimal n)) ≡ w - length (decimal n) + length (decimal n)
   unfolding widened
-  wide-length = length-append (replicate (w - length (decimal n)) 0x30) (decimal n) ∙ rw length-replicate
+  wide-length = length-append (replicate (w - length (decimal n)) (code "0")) (decimal n) ∙ rw length-replicate
 
   pub wide-low : n < 10 → w ≤ 1 → widened w (decimal n) ≡ digit n ∷ []
   unfolding widened
@@ -85,7 +86,7 @@ module _ (w n : ℕ) where
   unfolding widened
   wide-more h =
       let e : w - length (decimal n) ≡ w - 1 - length (decimal (n / 10)) = omega (arith, length-high n h) in
-      rw (e, decimal-high n h) (sym (append-assoc (replicate (w - 1 - length (decimal (n / 10))) 0x30) (decimal (n / 10)) (digit n ∷ [])))
+      rw (e, decimal-high n h) (sym (append-assoc (replicate (w - 1 - length (decimal (n / 10))) (code "0")) (decimal (n / 10)) (digit n ∷ [])))
 
   -- the zeros in front are those of the number 0
   wide-zero : n < 10 → 2 ≤ w → widened w (decimal n) ≡ widened (w - 1) (decimal (n / 10)) ++ (digit n ∷ [])
@@ -94,7 +95,7 @@ module _ (w n : ℕ) where
       let z : n / 10 ≡ 0 = omega arith in
       let e : w - 2 + 1 ≡ w - 1 = omega arith in
       let f : w - 1 - 1 ≡ w - 2 = omega arith in
-      rw (decimal-low n h, z, decimal-low 0 (omega arith), f, ← e, ← replicate-append-replicate {A = ℕ} (w - 2) 1 0x30)
+      rw (decimal-low n h, z, decimal-low 0 (omega arith), f, ← e, ← replicate-append-replicate {A = ℕ} (w - 2) 1 (code "0"))
 
   pub wide-high : (n < 10 → 2 ≤ w) → widened w (decimal n) ≡ widened (w - 1) (decimal (n / 10)) ++ (digit n ∷ [])
   wide-high k = go (decLt n 10)

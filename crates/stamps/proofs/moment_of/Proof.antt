@@ -6,7 +6,7 @@ use mir.Val.{SFits, ofZ, toZ}
 use mir.ValLaws.{toZ-ofZ}
 use borrow.Author.Needs.{needs}
 use Rattle.rules.specs.Dates.{Moment, momentOf, daysOf, secondsOf, secondOfDay}
-use Rattle.rules.specs.Dates.Laws.{days-small, InRange, moment-in-range}
+use Rattle.rules.specs.Dates.Range.{days-small, InRange, moment-in-range}
 use Rattle.stamps.proofs.moment_of.Statement.{statement}
 use Rattle.stamps.proofs.moment_of.Tie as tie
 
