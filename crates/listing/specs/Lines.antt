@@ -1,6 +1,5 @@
 -- The listing's text, one entry at a time, and as its writers cut it.
 use Prim.Native.Nat.{ℕ, _+_, _≤_}
-use Prim.Native.Char.{code}
 use mathlib.Core.Path.{_≡_, refl, sym, ap, _∙_}
 use mathlib.Core.Bool.{Bool, true, false}
 use mathlib.Core.List.{List, [], _∷_, _++_}
@@ -10,19 +9,16 @@ use Rattle.rules.specs.Lists.{pick, only, keepIf}
 use Rattle.rules.specs.Lists.Laws.{pick-true, pick-false}
 use Rattle.rules.specs.Fields.{splice, signedOf}
 use Rattle.rules.specs.Fields.Laws.{splice-nil, splice-splice, length-splice}
-use Rattle.rules.specs.Index.{Entry, fileType, liveType, volumeName}
+use Rattle.rules.specs.Index.{Entry, liveType}
 use Rattle.rules.specs.Paths.{isLive}
 use Rattle.rules.specs.Text.{text, decimal}
 use Rattle.rules.specs.Dates.{momentOf, momentText}
-use Rattle.rules.specs.Listing.{lineOf, linesOf}
+use Rattle.rules.specs.Listing.{markOf, lineOf, linesOf}
 use Rattle.text.specs.Wrote.{Wrote}
 use Rattle.index.specs.declared.Head.{Head}
 use Rattle.index.specs.View.{headView}
 
 -- ---- a line's parts
-abbrev pub markOf : ℕ → ℕ
-markOf t = pick (fileType t) (code "F") (code "D")
-
 -- mark and length
 abbrev pub numbersText : ℕ → ℕ → List ℕ
 numbersText t n = markOf t ∷ (text " " ++ decimal n)

@@ -1,24 +1,23 @@
 -- The whole text: a volume's, as its writers cut it, and the listing by what the judgement says.
 use Prim.Native.Nat.{ℕ, _+_, _-_, _^_, _≤_, _<_}
-use mathlib.Core.Path.{_≡_, refl, sym, ap, _∙_}
+use mathlib.Core.Path.{_≡_, sym, ap, _∙_}
 use mathlib.Core.List.{List, [], _∷_, _++_}
 use lib.ListN.{length, length-append, take, drop}
 use native.Mathlib.Omega.{arith}
-use lib.Dec.{leb}
 use borrow.Author.Tests.{le-leb, lt-leb}
 use Rattle.rules.specs.Lists.{only}
 use Rattle.rules.specs.Index.{Entry, volumeName, itemsOf}
 use Rattle.rules.specs.Regions.{heldBlocks}
 use Rattle.rules.specs.Paths.{isLive}
 use Rattle.rules.specs.Text.{text, joined, decimal}
-use Rattle.rules.specs.Refusals.{Volume, refused, accepted, entries, judge}
+use Rattle.rules.specs.Refusals.{refused, entries, judge}
 use Rattle.rules.specs.Refusals.Laws.{need-true, need-false, judge-opens}
 use Rattle.rules.specs.Listing.{countLine, refusedLine, volumeText, listingOf}
 use Rattle.geometry.specs.View.{geometryView}
 use Rattle.geometry.specs.declared.Geometry.{Geometry as Held}
 use Rattle.index.specs.declared.Cursor.{Cursor}
 use Rattle.index.specs.View.{Inside, itemsFrom}
-use Rattle.index.specs.Steps.{Walks, entriesFrom}
+use Rattle.index.specs.Steps.{entriesFrom}
 use Rattle.super_block.specs.Ends.{name-part}
 use Rattle.paths.specs.Entries.{lent-name}
 use Rattle.regions.specs.Bounds.{good-bounded}

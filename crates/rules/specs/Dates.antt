@@ -1,6 +1,6 @@
 -- 01, "Dates": a stamp counts 1/65536 seconds from 1970-01-01 UTC; the Gregorian calendar runs both ways; division rounds down.
-use Prim.Native.Nat.{ℕ, zero, suc, _+_, _-_, _*_, _/_, _%_}
-use mathlib.Core.Bool.{Bool, true, false, _&&_, _||_, not}
+use Prim.Native.Nat.{ℕ, zero, suc, _+_, _-_, _/_, _%_, _≤_}
+use mathlib.Core.Bool.{Bool, _&&_, _||_, not}
 use mathlib.Core.List.{List, [], _∷_, _++_}
 use lib.ListN.{getD}
 use lib.Dec.{eqb, ltb}
@@ -27,14 +27,14 @@ floorMod (negsuc n) b = b - 1 - n % b
 unfoldable pub divides : ℕ → ℤ → Bool
 divides n y = eqb (floorMod y n) 0
 
--- every fourth year, but of those that 100 divides only every fourth
+-- every fourth year, but of those that 100 divides only those that 400 divides
 unfoldable pub leapYear : ℤ → Bool
-leapYear y = divides 4 y && not (divides 100 y) || divides 400 y
+leapYear y = (divides 4 y && not (divides 100 y)) || divides 400 y
 
 unfoldable pub yearLength : ℤ → ℕ
 yearLength y = pick (leapYear y) 366 365
 
--- by whether the year is a leap year, from January, which is month 1; there is no month 0
+-- by whether the year is a leap year; January is month 1, and there is no month 0
 unfoldable pub monthLength : Bool → ℕ → ℕ
 monthLength leap m = getD (0 ∷ 31 ∷ pick leap 29 28 ∷ 31 ∷ 30 ∷ 31 ∷ 30 ∷ 31 ∷ 31 ∷ 30 ∷ 31 ∷ 30 ∷ 31 ∷ []) m 0
 
@@ -42,6 +42,10 @@ pub record Date : Type 0 where
   pub year : ℤ
   pub month : ℕ
   pub day : ℕ
+
+-- a date that the calendar has
+abbrev pub Valid : Date → Type 0
+Valid d = (1 ≤ d .month) × (d .month ≤ 12) × (1 ≤ d .day) × (d .day ≤ monthLength (leapYear (d .year)) (d .month))
 
 -- f 0 + f 1 + .. + f (n - 1)
 unfoldable pub total : (ℕ → ℕ) → ℕ → ℕ
@@ -61,29 +65,30 @@ epoch = 719_528
 unfoldable pub dayNumber : Date → ℤ
 dayNumber d = yearStart (d .year) +ℤ pos (total (monthLength (leapYear (d .year))) (d .month) + (d .day - 1)) -ℤ pos epoch
 
--- ---- the date of a day: the one with that day number (Dates/Calendar.antt, `date-is` and `date-only`), found by counting off
+-- ---- the date of a day: the one date with that day number (`date-is` and `date-only` of Dates/Calendar.antt), found by counting off
 pub record Counted : Type 0 where
-  pub whole : ℕ
+  pub unit : ℕ
   pub left : ℕ
 
--- from n days, f k, f (k + 1), .. days as long as they are all there: what was come to, and the days left; the first number bounds the steps
+-- of n days, units of f k, f (k + 1), .. days are counted off while they are whole: the unit come to, and the days left in it; the first
+-- number bounds the steps
 unfoldable pub countOff : ℕ → (ℕ → ℕ) → ℕ → ℕ → Counted
-countOff zero f k n = record { whole = k; left = n }
-countOff (suc steps) f k n = let r = countOff steps f (suc k) (n - f k) in pick (ltb n (f k)) (record { whole = k; left = n }) r
+countOff zero f k n = record { unit = k; left = n }
+countOff (suc steps) f k n = let r = countOff steps f (suc k) (n - f k) in pick (ltb n (f k)) (record { unit = k; left = n }) r
 
 -- the calendar repeats every 400 years, which have 146,097 days
 abbrev pub cycle : ℕ
 cycle = 146_097
 
--- whole years of a cycle, and then whole months of a year
+-- the year of a cycle's day, and the month of a year's day
 unfoldable pub yearOff : ℕ → Counted
 yearOff n = countOff 400 (λ k. yearLength (pos k)) 0 n
 
 unfoldable pub monthOff : Counted → Counted
-monthOff y = countOff 12 (monthLength (leapYear (pos (y .whole)))) 1 (y .left)
+monthOff y = countOff 12 (monthLength (leapYear (pos (y .unit)))) 1 (y .left)
 
 unfoldable pub dateIn : ℤ → Counted → Date
-dateIn cycles y = record { year = cycles *ℤ pos 400 +ℤ pos (y .whole); month = monthOff y .whole; day = monthOff y .left + 1 }
+dateIn cycles y = record { year = cycles *ℤ pos 400 +ℤ pos (y .unit); month = monthOff y .unit; day = monthOff y .left + 1 }
 
 unfoldable pub dateOf : ℤ → Date
 dateOf days = dateIn (floorDiv (days +ℤ pos epoch) cycle) (yearOff (floorMod (days +ℤ pos epoch) cycle))

@@ -1,10 +1,10 @@
 -- 01, "The listing program": the text that it writes for what it read.
-use Prim.Native.Nat.{ℕ, _+_}
-use mathlib.Core.Bool.{Bool, true, false}
+use Prim.Native.Nat.{ℕ}
+use Prim.Native.Char.{code}
 use mathlib.Core.List.{List, [], _∷_, _++_}
 use lib.ListN.{length}
 use lib.Dec.{leb}
-use Rattle.rules.specs.Lists.{pick, only, sum}
+use Rattle.rules.specs.Lists.{pick, only}
 use Rattle.rules.specs.Index.{Entry, fileType, volumeName}
 use Rattle.rules.specs.Regions.{heldBlocks}
 use Rattle.rules.specs.Paths.{isLive}
@@ -12,11 +12,15 @@ use Rattle.rules.specs.Refusals.{Verdict, refused, accepted, need, Volum
 use Rattle.rules.specs.Text.{text, joined, decimal}
 use Rattle.rules.specs.Dates.{momentOf, momentText}
 
--- `F 3 1969-12-31T23:59:59Z session/verified`: F or D, length, date and path
+-- F for a file, else D
+abbrev pub markOf : ℕ → ℕ
+markOf kind = pick (fileType kind) (code "F") (code "D")
+
+-- `F 3 1969-12-31T23:59:59Z session/verified`: mark, length, date and path
 unfoldable pub lineOf : Entry → List ℕ
 lineOf e =
     joined
-    (pick (fileType (e .kind)) (text "F") (text "D") ∷ text " " ∷ decimal (e .length) ∷ text " " ∷ momentText (momentOf (e .stamp))
+    ((markOf (e .kind) ∷ text " ") ∷ decimal (e .length) ∷ text " " ∷ momentText (momentOf (e .stamp))
     ∷ text " " ∷ e .path ∷ text "\n" ∷ [])
 
 unfoldable pub linesOf : List Entry → List ℕ

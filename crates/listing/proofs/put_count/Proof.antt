@@ -1,7 +1,4 @@
-use mathlib.Core.Path.{_≡_, ap, _∙_}
-use Prim.Native.Nat.{_+_}
 use native.Mathlib.Omega.{arith}
-use lib.ListN.{length, length-append}
 use Rattle.rules.specs.Text.{text}
 use Rattle.text.specs.Wrote.{wrote-both}
 use Rattle.listing.specs.Volume.{count-length}

@@ -1,6 +1,5 @@
-use mathlib.Core.Path.{ap}
 use native.Mathlib.Omega.{arith}
-use lib.ListN.{length, length-append}
+use lib.ListN.{length-append}
 use Rattle.rules.specs.Text.{text, decimal}
 use Rattle.rules.specs.Listing.{refusedLine}
 use Rattle.text.specs.Wrote.{wrote-both}

@@ -1,19 +1,17 @@
--- THE DATE OF A DAY: it is a date of the calendar, its day number is that day, and no other date has that number. Also how large a moment's parts are.
-use Prim.Native.Nat.{ℕ, zero, suc, _+_, _-_, _*_, _/_, _%_, _^_, _≤_, _<_}
+-- THE DATE OF A DAY: the calendar has it, its day number is that day, and no other date has that day number.
+use Prim.Native.Nat.{ℕ, zero, suc, _+_, _-_, _*_, _/_, _≤_, _<_}
 use mathlib.Core.Path.{_≡_, refl, sym, ap, _∙_}
 use mathlib.Core.Logic.{_⊎_, inl, inr, ⊎-elim}
 use mathlib.Core.Bool.{Bool, true, false, _&&_, _||_, not}
-use native.Mathlib.Nat.{mod-lt}
 use native.Mathlib.Decide.{decLt}
 use native.Mathlib.Omega.{arith}
-use lib.Dec.{eqb, ltb}
+use lib.Dec.{leb}
 use lib.IntN.{ℤ, pos, negsuc, negℤ, _+ℤ_, _-ℤ_, _*ℤ_, +ℤ-assoc, +ℤ-negℤ-cancel, -ℤ-+ℤ-cancel}
-use lib.Signed.{mag}
-use borrow.Author.Tests.{lt-ltb, le-ltb, eq-eqb, ne-eqb, eqb-true, eqb-false}
+use borrow.Author.Tests.{lt-ltb, le-ltb, eq-eqb, ne-eqb, eqb-true, leb-true}
 use Rattle.rules.specs.Lists.{pick}
-use Rattle.rules.specs.Lists.Laws.{pick-true, pick-false}
-use Rattle.rules.specs.Dates.{floorDiv, floorMod, divides, leapYear, yearLength, monthLength, Date, total, yearStart, epoch, dayNumber, Counted, countOff, cycle, yearOff, monthOff, dateIn, dateOf, Moment, secondsOf, daysOf, secondOfDay, momentOf}
-use Rattle.rules.specs.Dates.Laws.{neg-sum, pos-sum, floor-law, mod-below, floor-of, mag-div, mag-mul, mag-add}
+use Rattle.rules.specs.Lists.Laws.{pick-true, pick-false, and-true, clash}
+use Rattle.rules.specs.Dates.{floorDiv, floorMod, divides, leapYear, yearLength, monthLength, Date, Valid, total, yearStart, epoch, dayNumber, Counted, countOff, cycle, yearOff, monthOff, dateIn, dateOf}
+use Rattle.rules.specs.Dates.Laws.{neg-sum, pos-sum, floor-law, mod-below, floor-of}
 
 -- ---- counting off
 module _ (f : ℕ → ℕ) where
@@ -34,9 +32,9 @@ module _ (f : ℕ → ℕ) where
       go r (yes l) = omega (arith, r (omega arith))
       go r (no l) = let e : k ≡ suc u = omega arith in rw e (omega arith)
 
-  -- where n days come to: all units before `whole`, and `left` days of it
+  -- where n days come to: all units before this one, and what is left in it
   abbrev pub Placed : ℕ → ℕ → ℕ → Counted → Type 0
-  Placed from to n c = (from ≤ c .whole) × (c .whole < to) × (total f (c .whole) + c .left ≡ n) × (c .left < f (c .whole))
+  Placed from to n c = (from ≤ c .unit) × (c .unit < to) × (total f (c .unit) + c .left ≡ n) × (c .left < f (c .unit))
 
   some-place : (from to n : ℕ) → total f from ≤ n → n < total f to → (c : Counted) × Placed from to n c
   unfolding total
@@ -45,13 +43,13 @@ module _ (f : ℕ → ℕ) where
     where
       go : (n < total f to → (c : Counted) × Placed from to n c) → Dec (n < total f to) → (c : Counted) × Placed from (suc to) n c
       go r (yes l) = let (c, p) = r l in (c, (p .0, omega arith, p .2, p .3))
-      go r (no l) = (record { whole = to; left = n - total f to }, (low (decLt to from), omega arith, omega arith, omega arith))
+      go r (no l) = (record { unit = to; left = n - total f to }, (low (decLt to from), omega arith, omega arith, omega arith))
         where
           low : Dec (to < from) → from ≤ to
           low (yes m) = absurd (omega (arith, total-le (suc to) from m))
           low (no m) = omega arith
 
-  count-here : (steps k n : ℕ) → n < f k → countOff (suc steps) f k n ≡ record { whole = k; left = n }
+  count-here : (steps k n : ℕ) → n < f k → countOff (suc steps) f k n ≡ record { unit = k; left = n }
   unfolding countOff
   count-here steps k n h = pick-true _ _ (lt-ltb n (f k) h)
 
@@ -63,19 +61,19 @@ module _ (f : ℕ → ℕ) where
   count-only : (steps k n : ℕ) (c : Counted) → Placed k (k + steps) (total f k + n) c → countOff steps f k n ≡ c
   unfolding total
   count-only zero k n c p = absurd (omega arith)
-  count-only (suc steps) k n c (a, b, d, e) = go (λ g. count-only steps (suc k) (n - f k) c g) (decLt k (c .whole))
+  count-only (suc steps) k n c (a, b, d, e) = go (λ g. count-only steps (suc k) (n - f k) c g) (decLt k (c .unit))
     where
-      go : (Placed (suc k) (suc k + steps) (total f (suc k) + (n - f k)) c → countOff steps f (suc k) (n - f k) ≡ c) → Dec (k < c .whole)
+      go : (Placed (suc k) (suc k + steps) (total f (suc k) + (n - f k)) c → countOff steps f (suc k) (n - f k) ≡ c) → Dec (k < c .unit)
           → countOff (suc steps) f k n ≡ c
       go r (yes l) =
-          let m : f k ≤ n = omega (arith, total-le (suc k) (c .whole) l) in
+          let m : f k ≤ n = omega (arith, total-le (suc k) (c .unit) l) in
           count-next steps k n m ∙ r (omega arith, omega arith, omega arith, e)
       go r (no l) =
-          let w : k ≡ c .whole = omega arith in
-          let t : total f k ≡ total f (c .whole) = ap (total f) w in
-          let g : f k ≡ f (c .whole) = ap f w in
+          let w : k ≡ c .unit = omega arith in
+          let t : total f k ≡ total f (c .unit) = ap (total f) w in
+          let g : f k ≡ f (c .unit) = ap f w in
           let m : n ≡ c .left = omega arith in
-          let q : _≡_ {A = Counted} (record { whole = k; left = n }) (record { whole = c .whole; left = c .left }) = cc in
+          let q : _≡_ {A = Counted} (record { unit = k; left = n }) (record { unit = c .unit; left = c .left }) = cc in
           count-here steps k n (omega arith) ∙ q
 
   -- there is one, so that is what is come to
@@ -95,14 +93,14 @@ unfoldable ind : Bool → ℕ
 ind b = pick b 1 0
 
 -- the length of a year, where 400 divides only what 100 divides, and that only what 4 divides
-length-by : (a b c : Bool) → (b ≡ true → a ≡ true) → (c ≡ true → b ≡ true) → pick (a && not b || c) 366 365 + ind b ≡ 365 + ind a + ind c
+length-by : (a b c : Bool) → (b ≡ true → a ≡ true) → (c ≡ true → b ≡ true) → pick ((a && not b) || c) 366 365 + ind b ≡ 365 + ind a + ind c
 unfolding ind pick
 length-by true true true h k = refl
 length-by true true false h k = refl
-length-by true false true h k = absurd (let z : _≡_ {A = ℕ} 0 1 = cc (k refl) in omega arith)
+length-by true false true h k = clash (sym (k refl))
 length-by true false false h k = refl
-length-by false true c h k = absurd (let z : _≡_ {A = ℕ} 0 1 = cc (h refl) in omega arith)
-length-by false false true h k = absurd (let z : _≡_ {A = ℕ} 0 1 = cc (k refl) in omega arith)
+length-by false true c h k = clash (sym (h refl))
+length-by false false true h k = clash (sym (k refl))
 length-by false false false h k = refl
 
 divides-true : (n : ℕ) (y : ℤ) → floorMod y n ≡ 0 → divides n y ≡ true
@@ -133,38 +131,38 @@ ind-false : (n : ℕ) (y : ℤ) → 0 < floorMod y n → ind (divides n y) ≡ 0
 unfolding ind divides
 ind-false n y h = pick-false _ _ (ne-eqb (floorMod y n) 0 (λ e. omega arith))
 
--- multiples of d among the years 0, 1, .., n - 1 are (n + (d - 1)) / d, and among -1, -2, .., -n they are n / d
-module _ (n : ℕ) where
-  private-by : (d : ℕ) (y : ℤ) (P : ℕ → Type 0) → (floorMod y d ≡ 0 → P 1) → (0 < floorMod y d → P 0) → P (ind (divides d y))
-  private-by d y P h k = go (decLt 0 (floorMod y d))
-    where
-      go : Dec (0 < floorMod y d) → P (ind (divides d y))
-      go (yes l) = rw (ind-false d y l) (k l)
-      go (no l) = let e : floorMod y d ≡ 0 = omega arith in rw (ind-true d y e) (h e)
+by-divides : (d : ℕ) (y : ℤ) (P : ℕ → Type 0) → (floorMod y d ≡ 0 → P 1) → (0 < floorMod y d → P 0) → P (ind (divides d y))
+by-divides d y P h k = go (decLt 0 (floorMod y d))
+  where
+    go : Dec (0 < floorMod y d) → P (ind (divides d y))
+    go (yes l) = rw (ind-false d y l) (k l)
+    go (no l) = let e : floorMod y d ≡ 0 = omega arith in rw (ind-true d y e) (h e)
 
+-- of the years 0, 1, .., n - 1 the number d divides (n + (d - 1)) / d, and of -1, -2, .., -n it divides n / d
+module _ (n : ℕ) where
   up-4 : (suc n + 3) / 4 ≡ (n + 3) / 4 + ind (divides 4 (pos n))
   unfolding floorMod
-  up-4 = private-by 4 (pos n) (λ i. (suc n + 3) / 4 ≡ (n + 3) / 4 + i) (λ e. omega arith) (λ e. omega arith)
+  up-4 = by-divides 4 (pos n) (λ i. (suc n + 3) / 4 ≡ (n + 3) / 4 + i) (λ e. omega arith) (λ e. omega arith)
 
   up-100 : (suc n + 99) / 100 ≡ (n + 99) / 100 + ind (divides 100 (pos n))
   unfolding floorMod
-  up-100 = private-by 100 (pos n) (λ i. (suc n + 99) / 100 ≡ (n + 99) / 100 + i) (λ e. omega arith) (λ e. omega arith)
+  up-100 = by-divides 100 (pos n) (λ i. (suc n + 99) / 100 ≡ (n + 99) / 100 + i) (λ e. omega arith) (λ e. omega arith)
 
   up-400 : (suc n + 399) / 400 ≡ (n + 399) / 400 + ind (divides 400 (pos n))
   unfolding floorMod
-  up-400 = private-by 400 (pos n) (λ i. (suc n + 399) / 400 ≡ (n + 399) / 400 + i) (λ e. omega arith) (λ e. omega arith)
+  up-400 = by-divides 400 (pos n) (λ i. (suc n + 399) / 400 ≡ (n + 399) / 400 + i) (λ e. omega arith) (λ e. omega arith)
 
   down-4 : suc n / 4 ≡ n / 4 + ind (divides 4 (negsuc n))
   unfolding floorMod
-  down-4 = private-by 4 (negsuc n) (λ i. suc n / 4 ≡ n / 4 + i) (λ e. omega arith) (λ e. omega arith)
+  down-4 = by-divides 4 (negsuc n) (λ i. suc n / 4 ≡ n / 4 + i) (λ e. omega arith) (λ e. omega arith)
 
   down-100 : suc n / 100 ≡ n / 100 + ind (divides 100 (negsuc n))
   unfolding floorMod
-  down-100 = private-by 100 (negsuc n) (λ i. suc n / 100 ≡ n / 100 + i) (λ e. omega arith) (λ e. omega arith)
+  down-100 = by-divides 100 (negsuc n) (λ i. suc n / 100 ≡ n / 100 + i) (λ e. omega arith) (λ e. omega arith)
 
   down-400 : suc n / 400 ≡ n / 400 + ind (divides 400 (negsuc n))
   unfolding floorMod
-  down-400 = private-by 400 (negsuc n) (λ i. suc n / 400 ≡ n / 400 + i) (λ e. omega arith) (λ e. omega arith)
+  down-400 = by-divides 400 (negsuc n) (λ i. suc n / 400 ≡ n / 400 + i) (λ e. omega arith) (λ e. omega arith)
 
 -- the days of the years from 0 up, and from -1 down
 abbrev pub yearsUp : ℕ → ℕ
@@ -262,12 +260,30 @@ number-in q y m t =
     rw (leap-repeats q y, start-repeats q y, e)
     (ap (λ (z : ℤ). z -ℤ pos epoch) (+ℤ-assoc (q *ℤ pos cycle) (pos (daysUp y)) (pos (total (monthLength (leapYear (pos y))) m + t))))
 
--- ---- a date of the calendar
-abbrev pub Valid : Date → Type 0
-Valid d = (1 ≤ d .month) × (d .month ≤ 12) × (1 ≤ d .day) × (d .day ≤ monthLength (leapYear (d .year)) (d .month))
-
 pub valid-in : (q : ℤ) (y m t : ℕ) → 1 ≤ m → m ≤ 12 → t < monthLength (leapYear (pos y)) m → Valid (dateAs q y m t)
 valid-in q y m t a b h = rw (leap-repeats q y) (a, b, omega arith, omega arith)
+
+-- ---- months: what holds of each of the first n numbers is computed
+unfoldable pub checked : (ℕ → Bool) → ℕ → Bool
+checked p zero = true
+checked p (suc n) = checked p n && p n
+
+pub check-at : (p : ℕ → Bool) (n m : ℕ) → checked p n ≡ true → m < n → p m ≡ true
+unfolding checked
+check-at p zero m e h = absurd (omega arith)
+check-at p (suc n) m e h = go (λ l. check-at p n m (and-true (checked p n) (p n) e .0) l) (decLt m n)
+  where
+    go : (m < n → p m ≡ true) → Dec (m < n) → p m ≡ true
+    go r (yes l) = r l
+    go r (no l) = let k : m ≡ n = omega arith in rw k (and-true (checked p n) (p n) e .1)
+
+pub month-le : (b : Bool) (m : ℕ) → m ≤ 12 → monthLength b m ≤ 31
+unfolding checked monthLength pick
+month-le b m h = leb-true _ _ (check-at (λ k. leb (monthLength b k) 31) 13 m (right b) (omega arith))
+  where
+    right : (b : Bool) → checked (λ k. leb (monthLength b k) 31) 13 ≡ true
+    right true = refl
+    right false = refl
 
 -- a year is its months
 months-start : (b : Bool) → total (monthLength b) 1 ≡ 0
@@ -287,13 +303,13 @@ cycle-days : daysUp 400 ≡ cycle
 cycle-days = omega (arith, days-up 400)
 
 -- ---- counting off years, and then months
-year-placed : (n : ℕ) → n < cycle → Placed yearsUp 0 400 n (yearOff n)
+pub year-placed : (n : ℕ) → n < cycle → Placed yearsUp 0 400 n (yearOff n)
 unfolding yearOff
 year-placed n h = counted yearsUp 400 0 n (total-none yearsUp) (omega (arith, cycle-days))
 
-month-placed : (y : Counted) → y .left < yearsUp (y .whole) → Placed (monthLength (leapYear (pos (y .whole)))) 1 13 (y .left) (monthOff y)
+month-placed : (y : Counted) → y .left < yearsUp (y .unit) → Placed (monthLength (leapYear (pos (y .unit)))) 1 13 (y .left) (monthOff y)
 unfolding monthOff
-month-placed y h = let b = leapYear (pos (y .whole)) in counted (monthLength b) 12 1 (y .left) (months-start b) (omega (arith, months-end (pos (y .whole))))
+month-placed y h = let b = leapYear (pos (y .unit)) in counted (monthLength b) 12 1 (y .left) (months-start b) (omega (arith, months-end (pos (y .unit))))
 
 -- the date of a day, in its cycle
 found : (q : ℤ) (r : ℕ) → r < cycle → Valid (dateIn q (yearOff r)) × (dayNumber (dateIn q (yearOff r)) ≡ q *ℤ pos cycle +ℤ pos r -ℤ pos epoch)
@@ -303,8 +319,8 @@ found q r h =
     let m = monthOff y in
     let p = year-placed r h in
     let c = month-placed y (p .3) in
-    let e : dayIn (y .whole) (m .whole) (m .left) ≡ r = omega arith in
-    (valid-in q (y .whole) (m .whole) (m .left) (c .0) (omega arith) (c .3), number-in q (y .whole) (m .whole) (m .left) ∙ rw e)
+    let e : dayIn (y .unit) (m .unit) (m .left) ≡ r = omega arith in
+    (valid-in q (y .unit) (m .unit) (m .left) (c .0) (omega arith) (c .3), number-in q (y .unit) (m .unit) (m .left) ∙ rw e)
 
 module _ (days : ℤ) where
   in-cycle : floorMod (days +ℤ pos epoch) cycle < cycle
@@ -336,26 +352,25 @@ module _ (q : ℤ) (y m t : ℕ) (hy : y < 400) (low : 1 ≤ m) (high : m ≤ 12
   within-cycle : dayIn y m t < cycle
   within-cycle = omega (arith, total-next yearsUp y, total-le yearsUp (suc y) 400 hy, cycle-days, within-year)
 
-  year-found : yearOff (dayIn y m t) ≡ record { whole = y; left = dayOfYear }
+  year-found : yearOff (dayIn y m t) ≡ record { unit = y; left = dayOfYear }
   unfolding yearOff
-  year-found = counted-only yearsUp 400 0 (dayIn y m t) (record { whole = y; left = dayOfYear }) (total-none yearsUp) (omega arith, hy, refl, within-year)
+  year-found = counted-only yearsUp 400 0 (dayIn y m t) (record { unit = y; left = dayOfYear }) (total-none yearsUp) (omega arith, hy, refl, within-year)
 
-  month-found : monthOff (record { whole = y; left = dayOfYear }) ≡ record { whole = m; left = t }
+  month-found : monthOff (record { unit = y; left = dayOfYear }) ≡ record { unit = m; left = t }
   unfolding monthOff
   month-found =
-      counted-only (monthLength (leapYear (pos y))) 12 1 dayOfYear (record { whole = m; left = t }) (months-start (leapYear (pos y))) (low, omega arith, refl, h)
+      counted-only (monthLength (leapYear (pos y))) 12 1 dayOfYear (record { unit = m; left = t }) (months-start (leapYear (pos y))) (low, omega arith, refl, h)
 
   again : dateOf (dayNumber (dateAs q y m t)) ≡ dateAs q y m t
   unfolding dateOf dateIn
   again =
       let e : dayNumber (dateAs q y m t) +ℤ pos epoch ≡ q *ℤ pos cycle +ℤ pos (dayIn y m t) =
-          ap (λ (z : ℤ). z +ℤ pos epoch) (number-in q y m t) ∙ -ℤ-+ℤ-cancel (q *ℤ pos cycle +ℤ pos (dayIn y m t)) (pos epoch) in
+      ap (λ (z : ℤ). z +ℤ pos epoch) (number-in q y m t) ∙ -ℤ-+ℤ-cancel (q *ℤ pos cycle +ℤ pos (dayIn y m t)) (pos epoch) in
       let f = floor-of q cycle (dayIn y m t) within-cycle in
       rw (e, f .0, f .1, year-found, month-found)
 
--- and no other date has that day number
-pub date-only : (d : Date) → Valid d → dateOf (dayNumber d) ≡ d
-date-only d (low, high, some, h) =
+found-again : (d : Date) → Valid d → dateOf (dayNumber d) ≡ d
+found-again d (low, high, some, h) =
     let q = floorDiv (d .year) 400 in
     let y = floorMod (d .year) 400 in
     let e : inCycle q y ≡ d .year = floor-law (d .year) 400 (omega arith) in
@@ -364,3 +379,12 @@ date-only d (low, high, some, h) =
     let l : leapYear (d .year) ≡ leapYear (pos y) = ap leapYear (sym e) ∙ leap-repeats q y in
     let k : d .day ≤ monthLength (leapYear (pos y)) (d .month) = rw l at h in
     ap (λ (x : Date). dateOf (dayNumber x)) (sym p) ∙ again q y (d .month) (d .day - 1) (mod-below (d .year) 400 (omega arith)) low high (omega arith) ∙ p
+
+-- no other date has that day number
+pub date-only : (days : ℤ) (d : Date) → Valid d → dayNumber d ≡ days → d ≡ dateOf days
+date-only days d v e = sym (found-again d v) ∙ ap dateOf e
+
+-- the first of them is 1970-01-01
+pub first-day : dateOf (pos 0) ≡ record { year = pos 1970; month = 1; day = 1 }
+unfolding dateOf dateIn yearOff monthOff countOff floorDiv floorMod leapYear divides yearLength monthLength pick
+first-day = refl

@@ -1,5 +1,5 @@
 -- THE QUICK DATE: the calendar by a few quotients, as the code computes it, is the date of every day.
-use Prim.Native.Nat.{ℕ, zero, suc, _+_, _-_, _*_, _/_, _%_, _≤_, _<_, min}
+use Prim.Native.Nat.{ℕ, suc, _+_, _-_, _*_, _/_, _%_, _≤_, _<_, min}
 use mathlib.Core.Path.{_≡_, refl, sym, ap, _∙_}
 use mathlib.Core.Bool.{Bool, true, false, _&&_, _||_, not}
 use native.Mathlib.Nat.{mod-lt}
@@ -10,9 +10,9 @@ use lib.IntN.{ℤ, pos, _+ℤ_, _-ℤ_, _*ℤ_, +ℤ-assoc, +ℤ-negℤ-cancel}
 use borrow.Author.Tests.{lt-ltb, le-ltb, eq-eqb, ne-eqb, eqb-true}
 use Rattle.rules.specs.Lists.{pick}
 use Rattle.rules.specs.Lists.Laws.{pick-true, pick-false, and-true, clash}
-use Rattle.rules.specs.Dates.{floorDiv, floorMod, divides, leapYear, yearLength, monthLength, Date, total, epoch, cycle, dayNumber, dateOf}
+use Rattle.rules.specs.Dates.{floorDiv, floorMod, divides, leapYear, yearLength, monthLength, Date, Valid, total, epoch, cycle, dayNumber, dateOf}
 use Rattle.rules.specs.Dates.Laws.{floor-law, mod-below}
-use Rattle.rules.specs.Dates.Calendar.{total-none, total-next, yearsUp, daysUp, days-up, dateAs, dayIn, number-in, Valid, valid-in, date-only}
+use Rattle.rules.specs.Dates.Calendar.{total-next, yearsUp, daysUp, days-up, dayIn, number-in, valid-in, checked, check-at, date-only}
 
 -- ---- in years that start on 1 March, so that the leap day is the last of its year
 -- 400 years, 146,097 days, are an era: four centuries of 36,524 days and a day more in the last; 25 times four years of 1,461 days,
@@ -158,10 +158,6 @@ calendarMonth-range m k = go (decLt m 10)
     go (yes h) = omega (arith, calendarMonth-low m h)
     go (no h) = omega (arith, calendarMonth-high m (omega arith))
 
-pub dayOfMonth-range : (d : ℕ) → (1 ≤ d - monthStart (monthOf d) + 1) × (d - monthStart (monthOf d) + 1 ≤ 31)
-unfolding monthOf monthStart
-dayOfMonth-range d = omega arith
-
 -- ---- 1 March of a year, in days from 1 January of year 0: 306 days before the next year
 march-sum : (d y a b c i j : ℕ) → d + b ≡ 365 * suc y + a + c → a ≡ i + 1 → b ≡ j + 1 → c ≡ 1 → d + j ≡ 365 * y + i + 366
 march-sum d y a b c i j e f g h = omega arith
@@ -171,20 +167,7 @@ march y h =
     march-sum (daysUp (suc y)) y ((suc y + 3) / 4) ((suc y + 99) / 100) ((suc y + 399) / 400) (y / 4) (y / 100) (days-up (suc y))
     (omega arith) (omega arith) (omega arith)
 
--- ---- months: a law of each of the first n numbers is computed
-checked : (ℕ → Bool) → ℕ → Bool
-checked p zero = true
-checked p (suc n) = checked p n && p n
-
-check-at : (p : ℕ → Bool) (n m : ℕ) → checked p n ≡ true → m < n → p m ≡ true
-unfolding checked
-check-at p zero m e h = absurd (omega arith)
-check-at p (suc n) m e h = go (λ l. check-at p n m (and-true (checked p n) (p n) e .0) l) (decLt m n)
-  where
-    go : (m < n → p m ≡ true) → Dec (m < n) → p m ≡ true
-    go r (yes l) = r l
-    go r (no l) = let k : m ≡ n = omega arith in rw k (and-true (checked p n) (p n) e .1)
-
+-- ---- months
 -- from March on: where a month starts, behind January and February, and where the next one does
 months-low : (b : Bool) (m : ℕ) → m < 10
     → (total (monthLength b) (m + 3) ≡ monthStart m + pick b 60 59) × (monthStart (m + 1) ≡ monthStart m + monthLength b (m + 3))
@@ -300,8 +283,8 @@ quick-date days =
     let z = days +ℤ pos 719468 in
     let q = quick-in (floorMod z cycle) (mod-below z cycle (omega arith)) (floorDiv z cycle) in
     let s : floorDiv z cycle *ℤ pos cycle +ℤ pos (floorMod z cycle + 60) ≡ days +ℤ pos epoch =
-        sym (+ℤ-assoc (floorDiv z cycle *ℤ pos cycle) (pos (floorMod z cycle)) (pos 60))
-        ∙ ap (λ (x : ℤ). x +ℤ pos 60) (floor-law z cycle (omega arith))
-        ∙ +ℤ-assoc days (pos 719468) (pos 60) in
+    sym (+ℤ-assoc (floorDiv z cycle *ℤ pos cycle) (pos (floorMod z cycle)) (pos 60))
+    ∙ ap (λ (x : ℤ). x +ℤ pos 60) (floor-law z cycle (omega arith))
+    ∙ +ℤ-assoc days (pos 719468) (pos 60) in
     let n : dayNumber (quickDate days) ≡ days = q .1 ∙ ap (λ (x : ℤ). x -ℤ pos epoch) s ∙ +ℤ-negℤ-cancel days (pos epoch) in
-    ap dateOf (sym n) ∙ date-only (quickDate days) (q .0)
+    sym (date-only days (quickDate days) (q .0) n)

@@ -6,7 +6,7 @@ use mir.ValLaws.{toZ-ofZ}
 use borrow.Author.Needs.{needs}
 use Rattle.rules.specs.Dates.Laws.{mod-below}
 use Rattle.rules.specs.Dates.Quick.{quickDate, quick-date}
-use Rattle.rules.specs.Dates.Range.{era-small}
+use Rattle.rules.specs.Dates.Range.{cycles-small}
 use Rattle.stamps.proofs.Calendar.{shift-asks, shift-is}
 use Rattle.stamps.proofs.date_of.Statement.{statement}
 use Rattle.stamps.proofs.date_of.Tie as tie
@@ -25,7 +25,7 @@ date-at-requires c κs =
     let s = c .before .before in
     let f = c .before .floor-div in
     rw (toZ-ofZ w64 (f .result) (record { sfits = f .ok }), f .ensures, c .floor-mod .ensures, shift-is (s .args .days) (s .fits .days) (s .pre))
-    (era-small (s .args .days) (s .pre), mod-below (s .args .days +ℤ pos 719468) 146097 (omega arith))
+    (cycles-small (s .args .days) 719468 (s .pre) (omega arith), mod-below (s .args .days +ℤ pos 719468) 146097 (omega arith))
 
 returns : tie.Need-returns
 unfolding quickDate

@@ -1,5 +1,5 @@
 -- `stamps::moment_of` meets its contract. That a moment is in range is a law of the rules. Assumes nothing.
-use mathlib.Core.Path.{_≡_, _∙_}
+use mathlib.Core.Path.{_≡_}
 use lib.IntN.{ℤ}
 use mir.Syntax.{w64}
 use mir.Val.{SFits, ofZ, toZ}
