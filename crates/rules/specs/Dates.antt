@@ -8,6 +8,8 @@ use lib.IntN.{ℤ, pos, negsuc, negℤ, _+ℤ_, _-ℤ_, _*ℤ_}
 use Rattle.rules.specs.Lists.{pick}
 use Rattle.rules.specs.Text.{text, joined, decimal, widened}
 pub mod Laws
+pub mod Counting
+pub mod Years
 pub mod Calendar
 pub mod Quick
 pub mod Range

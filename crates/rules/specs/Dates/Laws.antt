@@ -10,7 +10,7 @@ use lib.Signed.{mag}
 use borrow.Author.Tests.{lt-ltb, le-ltb}
 use Rattle.rules.specs.Dates.{floorDiv, floorMod}
 
--- ---- -k + j, by which is more
+-- ---- -k + j, by which is more, and -n
 pub neg-sum : (k j n : ℕ) → k ≡ n + j + 1 → negℤ (pos k) +ℤ pos j ≡ negsuc n
 neg-sum zero j n e = absurd (omega arith)
 neg-sum (suc k) j n e =
@@ -24,6 +24,10 @@ pos-sum (suc k) j n e =
     let h : suc k ≤ j = omega arith in
     let q : j - suc k ≡ n = omega arith in
     simp (le-ltb j (suc k) h, q)
+
+pub neg-of : (n : ℕ) → 0 < n → negℤ (pos n) ≡ negsuc (n - 1)
+neg-of zero h = absurd (omega arith)
+neg-of (suc n) h = ap negsuc (omega arith)
 
 -- ---- the rounded-down quotient and its remainder
 pub floor-law : (z : ℤ) (b : ℕ) → 0 < b → floorDiv z b *ℤ pos b +ℤ pos (floorMod z b) ≡ z

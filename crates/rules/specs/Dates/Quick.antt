@@ -12,7 +12,9 @@ use Rattle.rules.specs.Lists.{pick}
 use Rattle.rules.specs.Lists.Laws.{pick-true, pick-false, and-true, clash}
 use Rattle.rules.specs.Dates.{floorDiv, floorMod, divides, leapYear, yearLength, monthLength, Date, Valid, total, epoch, cycle, dayNumber, dateOf}
 use Rattle.rules.specs.Dates.Laws.{floor-law, mod-below}
-use Rattle.rules.specs.Dates.Calendar.{total-next, yearsUp, daysUp, days-up, dayIn, number-in, valid-in, checked, check-at, date-only}
+use Rattle.rules.specs.Dates.Counting.{total-next, checked, check-at}
+use Rattle.rules.specs.Dates.Years.{yearsUp, daysUp, days-up}
+use Rattle.rules.specs.Dates.Calendar.{dayIn, number-in, valid-in, date-only}
 
 -- ---- in years that start on 1 March, so that the leap day is the last of its year
 -- 400 years, 146,097 days, are an era: four centuries of 36,524 days and a day more in the last; 25 times four years of 1,461 days,
@@ -83,7 +85,7 @@ unfolding yearOfFour
 within e = omega arith
 
 -- a year of an era begins 365 days for each year before it, and a day for each leap year among those, after the era
-pub day-count : (e : ℕ) → e < 146097 → 365 * yearOf e + yearOf e / 4 - yearOf e / 100 + dayOf e ≡ e
+day-count : (e : ℕ) → e < 146097 → 365 * yearOf e + yearOf e / 4 - yearOf e / 100 + dayOf e ≡ e
 unfolding yearOf dayOf
 day-count e h =
     count e (century e) (inCentury e / 1461) (inCentury e % 1461) (yearOfFour e) (split e h) (fours e h) (within e .0) (within e .1)
@@ -109,13 +111,13 @@ leap : (c q y : ℕ) → y ≡ 3 → q ≤ 24 → (q ≡ 24 → c ≡ 3)
 leap c q y h g k = (omega arith, λ z. let e : q ≡ 24 = full c q y h g z (decLt q 24) in omega (arith, k e))
 
 -- the 366th day is there only in a year that ends in a leap year of the calendar
-pub leap-day : (e : ℕ) → e < 146097 → 365 ≤ dayOf e
+leap-day : (e : ℕ) → e < 146097 → 365 ≤ dayOf e
     → ((yearOf e + 1) % 4 ≡ 0) × ((yearOf e + 1) % 100 ≡ 0 → yearOf e + 1 ≡ 400)
 unfolding yearOf
 leap-day e h k =
     leap (century e) (inCentury e / 1461) (yearOfFour e) (last-four e k .0) (fours e h) (last-century e h (last-four e k .1))
 
-pub in-month : (d : ℕ) → d < 366 → (monthOf d ≤ 11) × (monthStart (monthOf d) ≤ d) × (d < monthStart (monthOf d + 1))
+in-month : (d : ℕ) → d < 366 → (monthOf d ≤ 11) × (monthStart (monthOf d) ≤ d) × (d < monthStart (monthOf d + 1))
 unfolding monthOf monthStart
 in-month d h = omega arith
 
@@ -151,7 +153,7 @@ carry-le m = go (decLt m 10)
     go (yes h) = omega (arith, carry-low m h)
     go (no h) = omega (arith, carry-high m (omega arith))
 
-pub calendarMonth-range : (m : ℕ) → m ≤ 11 → (1 ≤ calendarMonth m) × (calendarMonth m ≤ 12)
+calendarMonth-range : (m : ℕ) → m ≤ 11 → (1 ≤ calendarMonth m) × (calendarMonth m ≤ 12)
 calendarMonth-range m k = go (decLt m 10)
   where
     go : Dec (m < 10) → (1 ≤ calendarMonth m) × (calendarMonth m ≤ 12)

@@ -26,7 +26,7 @@ year-small days h =
     omega (arith, mag-add (q *ℤ pos 400) (y .unit), mag-mul q 400, cycles-small days epoch h (omega arith), p .1)
 
 -- the date of any day within 2 ^ 40 of 1970
-pub date-in-range : (days : ℤ) → mag days < 2 ^ 40 → DateInRange (dateOf days)
+date-in-range : (days : ℤ) → mag days < 2 ^ 40 → DateInRange (dateOf days)
 date-in-range days h =
     let (low, high, some, last) = date-valid days in
     (year-small days h, low, high, some, omega (arith, month-le (leapYear (dateOf days .year)) (dateOf days .month) high))

@@ -43,15 +43,15 @@ pub momentText-parts : (m : Moment) → momentText m ≡ dateText (m .date .year
 unfolding momentText
 momentText-parts m = simp append-assoc
 
-pub length-dateText : (year : ℤ) (month day : ℕ) → mag year < 2 ^ 40 → month < 100 → day < 100 → length (dateText year month day) ≤ 20
+length-dateText : (year : ℤ) (month day : ℕ) → mag year < 2 ^ 40 → month < 100 → day < 100 → length (dateText year month day) ≤ 20
 length-dateText year month day h k l =
     simp (length-append, length-twoDigits month k, length-twoDigits day l) (omega (arith, length-yearText year h))
 
-pub length-timeText : (hour minute second : ℕ) → hour < 100 → minute < 100 → second < 100 → length (timeText hour minute second) ≡ 10
+length-timeText : (hour minute second : ℕ) → hour < 100 → minute < 100 → second < 100 → length (timeText hour minute second) ≡ 10
 length-timeText hour minute second h k l =
     simp (length-append, length-twoDigits hour h, length-twoDigits minute k, length-twoDigits second l)
 
-pub length-momentText : (m : Moment) → InRange m → length (momentText m) ≤ 30
+length-momentText : (m : Moment) → InRange m → length (momentText m) ≤ 30
 length-momentText m ((y, a, b, c, d), h, k, l) =
     rw (momentText-parts m, length-append)
     (omega (arith, length-dateText (m .date .year) (m .date .month) (m .date .day) y (omega arith) (omega arith), length-timeText (m .hour) (m .minute) (m .second) (omega arith) (omega arith) (omega arith)))

@@ -30,11 +30,11 @@ digits-enough (suc s) (suc t) n h k = go (λ l. digits-enough s t (n / 10) (omeg
         let m : 10 ≤ n = omega arith in
         digits-high s n m ∙ ap (λ (ds : List ℕ). ds ++ (digit n ∷ [])) (r m) ∙ sym (digits-high t n m)
 
-pub decimal-low : (n : ℕ) → n < 10 → decimal n ≡ digit n ∷ []
+decimal-low : (n : ℕ) → n < 10 → decimal n ≡ digit n ∷ []
 unfolding decimal
 decimal-low n h = digits-low n n h
 
-pub decimal-high : (n : ℕ) → 10 ≤ n → decimal n ≡ decimal (n / 10) ++ (digit n ∷ [])
+decimal-high : (n : ℕ) → 10 ≤ n → decimal n ≡ decimal (n / 10) ++ (digit n ∷ [])
 unfolding decimal
 decimal-high n h =
     digits-high n n h
@@ -59,7 +59,7 @@ decimal-length (suc d) n k h = go (λ r. decimal-length d (n / 10) r) (decLt n 1
         let q : length (decimal (n / 10)) ≤ d = r (some-left d (omega arith) h) (omega arith) in
         omega (arith, length-high n (omega arith))
 
-pub decimal-some : (n : ℕ) → 1 ≤ length (decimal n)
+decimal-some : (n : ℕ) → 1 ≤ length (decimal n)
 decimal-some n = go (decLt n 10)
   where
     go : Dec (n < 10) → 1 ≤ length (decimal n)
