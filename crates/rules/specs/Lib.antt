@@ -1,5 +1,6 @@
 -- The rules, in the order of document 01's sections. Each module states its rules; its `Laws` are what proofs go by.
 pub mod Lists
+pub mod Text
 pub mod Fields
 pub mod SuperBlock
 pub mod Names
@@ -11,6 +12,5 @@ pub mod Outcome
 pub mod Reading
 pub mod Writing
 pub mod History
-pub mod Text
 pub mod Dates
 pub mod Listing

@@ -197,7 +197,7 @@ leap-true y e f = rw (eq-eqb (y % 4) 0 e) (go (decLt 0 (y % 100)))
     go (yes h) = rw (ne-eqb (y % 100) 0 (λ z. omega arith))
     go (no h) = rw (f (omega arith))
 
--- ---- a day of an era is the right one: its month has it, and it is that many days after 1 January of year 0
+-- ---- a day of an era is the right one: its month has it, and from 1 January of the first year it is 60 days more than from 1 March
 abbrev Right : ℕ → ℕ → ℕ → ℕ → Type 0
 Right e y m t = (t < monthLength (leapYear (pos y)) m) × (dayIn y m t ≡ e + 60)
 
