@@ -1,4 +1,4 @@
--- `stamps::date_of` meets its contract. Assumes nothing.
+-- `stamps::date_of` meets its contract: the quick date of a day is its date. Assumes nothing.
 use native.Mathlib.Omega.{arith}
 use lib.IntN.{pos, _+ℤ_}
 use mir.Syntax.{w64}
