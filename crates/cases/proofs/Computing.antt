@@ -1,8 +1,4 @@
 -- What the cases are computed with.
-use Prim.Native.Nat.{ℕ}
-use Prim.Native.Char.{code}
-use Prim.Native.String.{String}
-use mathlib.Core.List.{List, [], _∷_}
 use Rattle.rules.specs.Lists.{pick, all, any, everyTwo, keepIf, only, firstIf, first, isSome, sum, largest, eqList, part, padded}
 use Rattle.rules.specs.Fields.{byteAt, le, leBytes, splice, signedOf, bitsOf, stampIn, stampBytes, byteSum, checks, checksumOf, upToZero, hasZero}
 use Rattle.rules.specs.SuperBlock.{lengthGood, geometryOf, blockBytes, blockLength, ceilingBlock, dataEnd, indexGood, geometryGood, fieldOf, withIndex, withData, withStamp, growIndex, extendData, trimData, restamp, sizesBytes, summedBytes, superBlockBytes, putSizes}
@@ -15,18 +11,13 @@ use Rattle.rules.specs.Outcome.{done, conclude, onVolume, noVolume, noEntry, nu
 use Rattle.rules.specs.Reading.{volumeNumbers, openOf, findOf, fileBytes, readOf, listed, listOf}
 use Rattle.rules.specs.Writing.{freshGeometry, formatted, formatOf, kindOf, bytesOf, nearestLive, startsUnused, itemSlot, lowestUnused, mayGrow, grownPlace, placeFrom, placeRun, placeFile, newEntry, putMarker, created, createOf, deletedKind, deleted, deleteOf, isDeleted, cleared, leastEnd, reclaimOf}
 use Rattle.rules.specs.History.{passed, step, nothing, keptOf, marked, fed, feed, run, told}
-use Rattle.rules.specs.Dates.{floorDiv, floorMod, century, inCentury, yearOfFour, yearOf, dayOf, monthOf, monthStart, calendarMonth, carry, dateAt, dateOf, secondsOf, daysOf, secondOfDay, momentOf, digit, digits, decimal, widened, yearText, twoDigits, momentText}
+use Rattle.rules.specs.Text.{digit, digits, decimal, widened}
+use Rattle.rules.specs.Dates.{floorDiv, floorMod, divides, leapYear, yearLength, monthLength, countOff, yearOff, monthOff, dateIn, dateOf, secondsOf, daysOf, secondOfDay, momentOf, yearText, twoDigits, momentText}
 use Rattle.rules.specs.Listing.{lineOf, linesOf, countLine, refusedLine, volumeText, listingOf}
-
--- the bytes of a text of characters below 0x80
-unfoldable pub text : String → List ℕ
-text String.[] = []
-text (String._∷_ c s) = code c ∷ text s
 
 -- All definitions of the rules by one name: a theorem that says `unfolding everything` computes through them.
 unfoldable pub everything : Unit {0}
 unfolding
-    text
     pick all any everyTwo keepIf only firstIf first isSome sum largest eqList part padded
     byteAt le leBytes splice signedOf bitsOf stampIn stampBytes byteSum checks checksumOf upToZero hasZero
     lengthGood geometryOf blockBytes blockLength ceilingBlock dataEnd indexGood geometryGood fieldOf withIndex withData
@@ -46,7 +37,8 @@ unfolding
     placeFrom placeRun placeFile newEntry putMarker created createOf deletedKind deleted deleteOf isDeleted cleared leastEnd
     reclaimOf
     passed step nothing keptOf marked fed feed run told
-    floorDiv floorMod century inCentury yearOfFour yearOf dayOf monthOf monthStart calendarMonth carry dateAt dateOf
-    secondsOf daysOf secondOfDay momentOf digit digits decimal widened yearText twoDigits momentText
+    digit digits decimal widened
+    floorDiv floorMod divides leapYear yearLength monthLength countOff yearOff monthOff dateIn dateOf secondsOf daysOf
+    secondOfDay momentOf yearText twoDigits momentText
     lineOf linesOf countLine refusedLine volumeText listingOf
 everything = tt

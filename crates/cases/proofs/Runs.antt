@@ -12,8 +12,9 @@ use Rattle.rules.specs.Outcome.{done}
 use Rattle.rules.specs.Reading.{openOf, findOf, listOf, readOf}
 use Rattle.rules.specs.Writing.{newFile, newDirectory, formatOf, createOf, deleteOf, reclaimOf}
 use Rattle.rules.specs.History.{Call, format, openVolume, find, list, read, create, delete, reclaim, step, run, told, nothing}
+use Rattle.rules.specs.Text.{text}
 use Rattle.rules.specs.Listing.{listingOf}
-use Rattle.cases.proofs.Computing.{text, everything}
+use Rattle.cases.proofs.Computing.{everything}
 use Rattle.cases.proofs.Table.{date}
 
 -- ---- the refusals of a list of calls

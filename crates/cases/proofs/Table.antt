@@ -9,8 +9,9 @@ use Rattle.rules.specs.Fields.{checksumOf}
 use Rattle.rules.specs.SuperBlock.{Geometry, summedBytes}
 use Rattle.rules.specs.Index.{continuing, typeFile, typeDirectory}
 use Rattle.rules.specs.Writing.{formatOf, newFile, createOf}
+use Rattle.rules.specs.Text.{text}
 use Rattle.rules.specs.Dates.{momentOf, momentText}
-use Rattle.cases.proofs.Computing.{text, everything}
+use Rattle.cases.proofs.Computing.{everything}
 
 -- a case: what the definitions give, and what 01 says
 pub record Row : Type 0 where

@@ -9,28 +9,26 @@ use Rattle.rules.specs.Lists.{pick, only, keepIf}
 use Rattle.rules.specs.Lists.Laws.{pick-true, pick-false}
 use Rattle.rules.specs.Fields.{splice, signedOf}
 use Rattle.rules.specs.Fields.Laws.{splice-nil, splice-splice, length-splice}
-use Rattle.rules.specs.Index.{Entry, fileType, liveType, volumeName}
+use Rattle.rules.specs.Index.{Entry, liveType}
 use Rattle.rules.specs.Paths.{isLive}
-use Rattle.rules.specs.Dates.{decimal, momentOf, momentText}
-use Rattle.rules.specs.Listing.{lineOf, linesOf}
+use Rattle.rules.specs.Text.{text, decimal}
+use Rattle.rules.specs.Dates.{momentOf, momentText}
+use Rattle.rules.specs.Listing.{markOf, lineOf, linesOf}
 use Rattle.text.specs.Wrote.{Wrote}
 use Rattle.index.specs.declared.Head.{Head}
 use Rattle.index.specs.View.{headView}
 
 -- ---- a line's parts
-abbrev pub markOf : ℕ → ℕ
-markOf t = pick (fileType t) 0x46 0x44
-
 -- mark and length
 abbrev pub numbersText : ℕ → ℕ → List ℕ
-numbersText t n = markOf t ∷ 0x20 ∷ decimal n
+numbersText t n = markOf t ∷ (text " " ++ decimal n)
 
 -- from the bits of a stamp
 abbrev pub dateText : ℕ → List ℕ
-dateText z = 0x20 ∷ momentText (momentOf (signedOf z))
+dateText z = text " " ++ momentText (momentOf (signedOf z))
 
 abbrev pub pathText : List ℕ → List ℕ
-pathText p = 0x20 ∷ (p ++ (0x0A ∷ []))
+pathText p = text " " ++ (p ++ text "\n")
 
 module _ (s : List ℕ) (h : Head) where
   pub line-parts : lineOf (headView s h) ≡ numbersText (h .kind) (h .length) ++ (dateText (h .stamp) ++ pathText (headView s h .path))

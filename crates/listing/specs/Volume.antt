@@ -1,24 +1,23 @@
 -- The whole text: a volume's, as its writers cut it, and the listing by what the judgement says.
 use Prim.Native.Nat.{ℕ, _+_, _-_, _^_, _≤_, _<_}
-use mathlib.Core.Path.{_≡_, refl, sym, ap, _∙_}
+use mathlib.Core.Path.{_≡_, sym, ap, _∙_}
 use mathlib.Core.List.{List, [], _∷_, _++_}
 use lib.ListN.{length, length-append, take, drop}
 use native.Mathlib.Omega.{arith}
-use lib.Dec.{leb}
 use borrow.Author.Tests.{le-leb, lt-leb}
 use Rattle.rules.specs.Lists.{only}
 use Rattle.rules.specs.Index.{Entry, volumeName, itemsOf}
 use Rattle.rules.specs.Regions.{heldBlocks}
 use Rattle.rules.specs.Paths.{isLive}
-use Rattle.rules.specs.Dates.{decimal}
-use Rattle.rules.specs.Refusals.{Volume, refused, accepted, entries, judge}
+use Rattle.rules.specs.Text.{text, joined, decimal}
+use Rattle.rules.specs.Refusals.{refused, entries, judge}
 use Rattle.rules.specs.Refusals.Laws.{need-true, need-false, judge-opens}
 use Rattle.rules.specs.Listing.{countLine, refusedLine, volumeText, listingOf}
 use Rattle.geometry.specs.View.{geometryView}
 use Rattle.geometry.specs.declared.Geometry.{Geometry as Held}
 use Rattle.index.specs.declared.Cursor.{Cursor}
 use Rattle.index.specs.View.{Inside, itemsFrom}
-use Rattle.index.specs.Steps.{Walks, entriesFrom}
+use Rattle.index.specs.Steps.{entriesFrom}
 use Rattle.super_block.specs.Ends.{name-part}
 use Rattle.paths.specs.Entries.{lent-name}
 use Rattle.regions.specs.Bounds.{good-bounded}
@@ -28,9 +27,7 @@ use Rattle.listing.specs.Lines.{liveText}
 
 -- `live N held M`
 abbrev pub countText : ℕ → ℕ → List ℕ
-countText live held =
-    (0x6C ∷ 0x69 ∷ 0x76 ∷ 0x65 ∷ 0x20 ∷ decimal live)
-    ++ (0x20 ∷ 0x68 ∷ 0x65 ∷ 0x6C ∷ 0x64 ∷ 0x20 ∷ (decimal held ++ (0x0A ∷ [])))
+countText live held = joined (text "live " ∷ decimal live ∷ text " held " ∷ decimal held ∷ text "\n" ∷ [])
 
 pub count-is : (es : List Entry) (live held : ℕ) → live ≡ length (only isLive es) → held ≡ heldBlocks es → countText live held ≡ countLine es
 unfolding countLine
@@ -40,7 +37,7 @@ pub count-length : (live held : ℕ) → length (countText live held) ≡ 12 + (
 count-length live held = simp length-append (omega arith)
 
 abbrev pub nameText : List ℕ → List ℕ
-nameText s = volumeName s ++ (0x0A ∷ [])
+nameText s = volumeName s ++ text "\n"
 
 -- a program lends the name by its place and length
 pub lent-volume : (s : List ℕ) → 64 ≤ length s → (n : ℕ) → n ≡ length (volumeName s) → take (length s - 52 + n - (length s - 52)) (drop (length s - 52) s) ≡ volumeName s

@@ -16,16 +16,16 @@ ghost use mathlib.Core.List.{List, [], _∷_, _++_};
 ghost use Prim.Native.Nat.{ℕ, _+_, _^_, _≤_, _<_};
 ghost use lib.ListN.{length, take};
 ghost use Rattle.rules.specs.Lists.{only};
-ghost use Rattle.rules.specs.Dates.{decimal};
+ghost use Rattle.rules.specs.Text.{decimal};
 ghost use Rattle.rules.specs.Index.{runType};
 ghost use Rattle.rules.specs.Paths.{isLive};
 ghost use Rattle.rules.specs.Regions.{heldBlocks};
-ghost use Rattle.rules.specs.Listing.{lineOf, refusedLine, listingOf};
+ghost use Rattle.rules.specs.Listing.{markOf, lineOf, refusedLine, listingOf};
 ghost use Rattle.index.specs.View.{headView};
 ghost use Rattle.index.specs.Steps.{Walks, HeadIn, entriesFrom};
 ghost use Rattle.judging.specs.View.{Opened};
 ghost use Rattle.text.specs.Wrote.{Wrote};
-ghost use Rattle.listing.specs.Lines.{markOf, numbersText, dateText, pathText, entryText, liveText, liveOne};
+ghost use Rattle.listing.specs.Lines.{numbersText, dateText, pathText, entryText, liveText, liveOne};
 ghost use Rattle.listing.specs.Volume.{countText, nameText, entriesText, openedText};
 
 // Words, and then a number.

@@ -1,12 +1,18 @@
 -- 01, "Dates": a stamp counts 1/65536 seconds from 1970-01-01 UTC; the Gregorian calendar runs both ways; division rounds down.
-use Prim.Native.Nat.{ℕ, zero, suc, _+_, _-_, _*_, _/_, _%_, min}
-use mathlib.Core.Bool.{Bool, true, false}
+use Prim.Native.Nat.{ℕ, zero, suc, _+_, _-_, _/_, _%_, _≤_}
+use mathlib.Core.Bool.{Bool, _&&_, _||_, not}
 use mathlib.Core.List.{List, [], _∷_, _++_}
-use lib.ListN.{length, replicate}
-use lib.Dec.{ltb, leb}
-use lib.IntN.{ℤ, pos, negsuc, natAbs, _+ℤ_, _*ℤ_}
+use lib.ListN.{getD}
+use lib.Dec.{eqb, ltb}
+use lib.IntN.{ℤ, pos, negsuc, negℤ, _+ℤ_, _-ℤ_, _*ℤ_}
 use Rattle.rules.specs.Lists.{pick}
+use Rattle.rules.specs.Text.{text, joined, decimal, widened}
 pub mod Laws
+pub mod Counting
+pub mod Years
+pub mod Calendar
+pub mod Quick
+pub mod Range
 pub mod Text
 
 -- rounded down, by a number above 0: -(n + 1) divided by b is -(n / b + 1)
@@ -19,54 +25,75 @@ unfoldable pub floorMod : ℤ → ℕ → ℕ
 floorMod (pos n) b = n % b
 floorMod (negsuc n) b = b - 1 - n % b
 
--- ---- the calendar, in years that start on 1 March, so that the leap day is the last of its year
--- 400 years, 146,097 days, are an era: four centuries of 36,524 days and a day more in the last; 25 times four years of 1,461 days,
--- the last of a century a day less; four years of 365 days, and a day more in the last
-unfoldable pub century : ℕ → ℕ
-century e = min (e / 36524) 3
+-- ---- the calendar
+unfoldable pub divides : ℕ → ℤ → Bool
+divides n y = eqb (floorMod y n) 0
 
-unfoldable pub inCentury : ℕ → ℕ
-inCentury e = e - 36524 * century e
+-- every fourth year, but of those that 100 divides only those that 400 divides
+unfoldable pub leapYear : ℤ → Bool
+leapYear y = (divides 4 y && not (divides 100 y)) || divides 400 y
 
-unfoldable pub yearOfFour : ℕ → ℕ
-yearOfFour e = min (inCentury e % 1461 / 365) 3
+unfoldable pub yearLength : ℤ → ℕ
+yearLength y = pick (leapYear y) 366 365
 
--- the year of the era, and the day of that year, both from 0
-unfoldable pub yearOf : ℕ → ℕ
-yearOf e = 100 * century e + 4 * (inCentury e / 1461) + yearOfFour e
-
-unfoldable pub dayOf : ℕ → ℕ
-dayOf e = inCentury e % 1461 - 365 * yearOfFour e
-
--- the month, from 0 for March, and its first day: lengths of 31 30 31 30 31 repeat
-unfoldable pub monthOf : ℕ → ℕ
-monthOf d = (5 * d + 2) / 153
-
-unfoldable pub monthStart : ℕ → ℕ
-monthStart m = (153 * m + 2) / 5
-
--- the calendar's month, and how much further its year is: January and February are the next year's
-unfoldable pub calendarMonth : ℕ → ℕ
-calendarMonth m = pick (ltb m 10) (m + 3) (m - 9)
-
-unfoldable pub carry : ℕ → ℕ
-carry m = pick (ltb m 10) 0 1
+-- by whether the year is a leap year; January is month 1, and there is no month 0
+unfoldable pub monthLength : Bool → ℕ → ℕ
+monthLength leap m = getD (0 ∷ 31 ∷ pick leap 29 28 ∷ 31 ∷ 30 ∷ 31 ∷ 30 ∷ 31 ∷ 31 ∷ 30 ∷ 31 ∷ 30 ∷ 31 ∷ []) m 0
 
 pub record Date : Type 0 where
   pub year : ℤ
   pub month : ℕ
   pub day : ℕ
 
-unfoldable pub dateAt : ℤ → ℕ → Date
-dateAt era e = record {
-  year = era *ℤ pos 400 +ℤ pos (yearOf e + carry (monthOf (dayOf e)));
-  month = calendarMonth (monthOf (dayOf e));
-  day = dayOf e - monthStart (monthOf (dayOf e)) + 1;
-}
+-- a date that the calendar has
+abbrev pub Valid : Date → Type 0
+Valid d = (1 ≤ d .month) × (d .month ≤ 12) × (1 ≤ d .day) × (d .day ≤ monthLength (leapYear (d .year)) (d .month))
 
--- the date of a day counted from 1970-01-01, which is 719,468 days after 1 March of year 0
+-- f 0 + f 1 + .. + f (n - 1)
+unfoldable pub total : (ℕ → ℕ) → ℕ → ℕ
+total f zero = 0
+total f (suc n) = total f n + f n
+
+-- 1 January of a year, in days from 1 January of year 0: the lengths of the years between, either way
+unfoldable pub yearStart : ℤ → ℤ
+yearStart (pos n) = pos (total (λ k. yearLength (pos k)) n)
+yearStart (negsuc n) = negℤ (pos (total (λ k. yearLength (negsuc k)) (suc n)))
+
+-- 1970-01-01, in days from 1 January of year 0
+abbrev pub epoch : ℕ
+epoch = 719_528
+
+-- the day number of a date: days from 1970-01-01
+unfoldable pub dayNumber : Date → ℤ
+dayNumber d = yearStart (d .year) +ℤ pos (total (monthLength (leapYear (d .year))) (d .month) + (d .day - 1)) -ℤ pos epoch
+
+-- ---- the date of a day: the one date with that day number (`date-is` and `date-only` of Dates/Calendar.antt), found by counting off
+pub record Counted : Type 0 where
+  pub unit : ℕ
+  pub left : ℕ
+
+-- of n days, units of f k, f (k + 1), .. days are counted off while they are whole: the unit come to, and the days left in it; the first
+-- number bounds the steps
+unfoldable pub countOff : ℕ → (ℕ → ℕ) → ℕ → ℕ → Counted
+countOff zero f k n = record { unit = k; left = n }
+countOff (suc steps) f k n = let r = countOff steps f (suc k) (n - f k) in pick (ltb n (f k)) (record { unit = k; left = n }) r
+
+-- the calendar repeats every 400 years, which have 146,097 days
+abbrev pub cycle : ℕ
+cycle = 146_097
+
+-- the year of a cycle's day, and the month of a year's day
+unfoldable pub yearOff : ℕ → Counted
+yearOff n = countOff 400 (λ k. yearLength (pos k)) 0 n
+
+unfoldable pub monthOff : Counted → Counted
+monthOff y = countOff 12 (monthLength (leapYear (pos (y .unit)))) 1 (y .left)
+
+unfoldable pub dateIn : ℤ → Counted → Date
+dateIn cycles y = record { year = cycles *ℤ pos 400 +ℤ pos (y .unit); month = monthOff y .unit; day = monthOff y .left + 1 }
+
 unfoldable pub dateOf : ℤ → Date
-dateOf days = dateAt (floorDiv (days +ℤ pos 719468) 146097) (floorMod (days +ℤ pos 719468) 146097)
+dateOf days = dateIn (floorDiv (days +ℤ pos epoch) cycle) (yearOff (floorMod (days +ℤ pos epoch) cycle))
 
 pub record Moment : Type 0 where
   pub date : Date
@@ -92,25 +119,10 @@ momentOf stamp = record {
 }
 
 -- ---- as text
-unfoldable pub digit : ℕ → ℕ
-digit n = 0x30 + n % 10
-
--- decimal digits, with no zero in front; the first number only bounds the steps
-unfoldable pub digits : ℕ → ℕ → List ℕ
-digits zero n = []
-digits (suc steps) n = let r = digits steps (n / 10) in pick (ltb n 10) (digit n ∷ []) (r ++ (digit n ∷ []))
-
-unfoldable pub decimal : ℕ → List ℕ
-decimal n = digits (suc n) n
-
--- at least w digits
-unfoldable pub widened : ℕ → List ℕ → List ℕ
-widened w ds = replicate (w - length ds) 0x30 ++ ds
-
 -- years have at least four digits, with a minus sign below 0
 unfoldable pub yearText : ℤ → List ℕ
 yearText (pos n) = widened 4 (decimal n)
-yearText (negsuc n) = 0x2D ∷ widened 4 (decimal (suc n))
+yearText (negsuc n) = text "-" ++ widened 4 (decimal (suc n))
 
 unfoldable pub twoDigits : ℕ → List ℕ
 twoDigits n = widened 2 (decimal n)
@@ -118,5 +130,6 @@ twoDigits n = widened 2 (decimal n)
 -- as 1970-01-01T00:01:00Z
 unfoldable pub momentText : Moment → List ℕ
 momentText m =
-    (yearText (m .date .year) ++ (0x2D ∷ (twoDigits (m .date .month) ++ (0x2D ∷ twoDigits (m .date .day)))))
-    ++ (0x54 ∷ (twoDigits (m .hour) ++ (0x3A ∷ (twoDigits (m .minute) ++ (0x3A ∷ (twoDigits (m .second) ++ (0x5A ∷ [])))))))
+    joined
+    (yearText (m .date .year) ∷ text "-" ∷ twoDigits (m .date .month) ∷ text "-" ∷ twoDigits (m .date .day)
+    ∷ text "T" ∷ twoDigits (m .hour) ∷ text ":" ∷ twoDigits (m .minute) ∷ text ":" ∷ twoDigits (m .second) ∷ text "Z" ∷ [])

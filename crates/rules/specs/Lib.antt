@@ -1,5 +1,6 @@
 -- The rules, in the order of document 01's sections. Each module states its rules; its `Laws` are what proofs go by.
 pub mod Lists
+pub mod Text
 pub mod Fields
 pub mod SuperBlock
 pub mod Names

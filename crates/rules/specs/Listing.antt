@@ -1,21 +1,27 @@
 -- 01, "The listing program": the text that it writes for what it read.
-use Prim.Native.Nat.{ℕ, _+_}
-use mathlib.Core.Bool.{Bool, true, false}
+use Prim.Native.Nat.{ℕ}
+use Prim.Native.Char.{code}
 use mathlib.Core.List.{List, [], _∷_, _++_}
 use lib.ListN.{length}
 use lib.Dec.{leb}
-use Rattle.rules.specs.Lists.{pick, only, sum}
+use Rattle.rules.specs.Lists.{pick, only}
 use Rattle.rules.specs.Index.{Entry, fileType, volumeName}
 use Rattle.rules.specs.Regions.{heldBlocks}
 use Rattle.rules.specs.Paths.{isLive}
 use Rattle.rules.specs.Refusals.{Verdict, refused, accepted, need, Volume, entries, judge}
-use Rattle.rules.specs.Dates.{decimal, momentOf, momentText}
+use Rattle.rules.specs.Text.{text, joined, decimal}
+use Rattle.rules.specs.Dates.{momentOf, momentText}
 
--- F or D, length, date and path
+-- F for a file, else D
+abbrev pub markOf : ℕ → ℕ
+markOf kind = pick (fileType kind) (code "F") (code "D")
+
+-- `F 3 1969-12-31T23:59:59Z session/verified`: mark, length, date and path
 unfoldable pub lineOf : Entry → List ℕ
 lineOf e =
-    (pick (fileType (e .kind)) 0x46 0x44 ∷ 0x20 ∷ decimal (e .length))
-    ++ (0x20 ∷ (momentText (momentOf (e .stamp)) ++ (0x20 ∷ (e .path ++ (0x0A ∷ [])))))
+    joined
+    ((markOf (e .kind) ∷ text " ") ∷ decimal (e .length) ∷ text " " ∷ momentText (momentOf (e .stamp))
+    ∷ text " " ∷ e .path ∷ text "\n" ∷ [])
 
 unfoldable pub linesOf : List Entry → List ℕ
 linesOf [] = []
@@ -23,17 +29,16 @@ linesOf (e ∷ es) = lineOf e ++ linesOf es
 
 -- `live N held M`: live entries, and blocks of live and deleted files
 unfoldable pub countLine : List Entry → List ℕ
-countLine es =
-    (0x6C ∷ 0x69 ∷ 0x76 ∷ 0x65 ∷ 0x20 ∷ decimal (length (only isLive es)))
-    ++ (0x20 ∷ 0x68 ∷ 0x65 ∷ 0x6C ∷ 0x64 ∷ 0x20 ∷ (decimal (heldBlocks es) ++ (0x0A ∷ [])))
+countLine es = joined (text "live " ∷ decimal (length (only isLive es)) ∷ text " held " ∷ decimal (heldBlocks es) ∷ text "\n" ∷ [])
 
 -- `refused N`
 unfoldable pub refusedLine : ℕ → List ℕ
-refusedLine n = (0x72 ∷ 0x65 ∷ 0x66 ∷ 0x75 ∷ 0x73 ∷ 0x65 ∷ 0x64 ∷ 0x20 ∷ decimal n) ++ (0x0A ∷ [])
+refusedLine n = joined (text "refused " ∷ decimal n ∷ text "\n" ∷ [])
 
+-- the volume name, a line for each live entry, and the count
 unfoldable pub volumeText : List ℕ → Verdict Volume → List ℕ
 volumeText s (refused n) = refusedLine n
-volumeText s (accepted v) = (volumeName s ++ (0x0A ∷ [])) ++ (linesOf (only isLive (entries v)) ++ countLine (entries v))
+volumeText s (accepted v) = (volumeName s ++ text "\n") ++ (linesOf (only isLive (entries v)) ++ countLine (entries v))
 
 -- more than 65,536 bytes are refusal 1
 unfoldable pub listingOf : List ℕ → List ℕ

@@ -5,8 +5,9 @@ ghost use Prim.Native.Nat.{_+_, _-_, _<_, _^_};
 ghost use lib.IntN.{pos, natAbs, _+ℤ_, _*ℤ_};
 ghost use lib.Signed.{_<ℤ_, mag};
 ghost use Rattle.rules.specs.Fields.{signedOf, bitsOf};
-ghost use Rattle.rules.specs.Dates.{floorDiv, floorMod, yearOf, dayOf, monthOf, monthStart, calendarMonth, carry, dateAt, dateOf, momentOf};
-ghost use Rattle.rules.specs.Dates.Laws.{InRange};
+ghost use Rattle.rules.specs.Dates.{floorDiv, floorMod, dateOf, momentOf};
+ghost use Rattle.rules.specs.Dates.Quick.{yearOf, dayOf, monthOf, monthStart, calendarMonth, carry, dateAt};
+ghost use Rattle.rules.specs.Dates.Range.{InRange};
 ghost use Rattle.stamps.specs.View.{dateView, momentView};
 
 // The signed number whose bits are `x`.

@@ -7,7 +7,8 @@ ghost use lib.ListN.{length};
 ghost use lib.IntN.{natAbs};
 ghost use lib.Signed.{mag};
 ghost use Rattle.rules.specs.Fields.{signedOf};
-ghost use Rattle.rules.specs.Dates.{digit, decimal, widened, yearText, twoDigits, momentOf, momentText};
+ghost use Rattle.rules.specs.Text.{digit, decimal, widened};
+ghost use Rattle.rules.specs.Dates.{yearText, twoDigits, momentOf, momentText};
 ghost use Rattle.rules.specs.Dates.Text.{dateText, timeText};
 ghost use Rattle.text.specs.Wrote.{Wrote};
 

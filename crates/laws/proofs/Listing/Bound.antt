@@ -8,7 +8,7 @@ use lib.Dec.{leb}
 use lib.ListN.{length, length-append, length-take, drop}
 use borrow.Author.Tests.{leb-true}
 use Rattle.rules.specs.Lists.{part, only, sum}
-use Rattle.rules.specs.Dates.Text.{decimal-length}
+use Rattle.rules.specs.Text.Laws.{decimal-length}
 use Rattle.rules.specs.Index.{Entry, identifierAt, innerSlots, itemAt, itemsOf, slotAt, volumeField, volumeName, fileType}
 use Rattle.rules.specs.Regions.{blocksOf, heldBlocks}
 use Rattle.rules.specs.Paths.{isLive}

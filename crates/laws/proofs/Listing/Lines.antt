@@ -8,7 +8,8 @@ use lib.Signed.{mag}
 use Rattle.rules.specs.Fields.{le, upToZero, stampIn}
 use Rattle.rules.specs.Fields.Laws.{le-lt, upToZero-take}
 use Rattle.rules.specs.Fields.Signed.{signedOf-mag}
-use Rattle.rules.specs.Dates.Text.{decimal-64, moment-text-fits}
+use Rattle.rules.specs.Text.Laws.{decimal-64}
+use Rattle.rules.specs.Dates.Text.{moment-text-fits}
 use Rattle.rules.specs.Index.{Entry, entryAt, unusableAt, itemAt, runSlots, nameField, fileField, lengthAt, endAt, stampAt, slotBytes}
 use Rattle.rules.specs.Index.Walk.{pick-both}
 use Rattle.rules.specs.Regions.{blocksOf}

@@ -1,8 +1,5 @@
-use mathlib.Core.List.{[], _∷_}
-use mathlib.Core.Path.{_≡_, ap, _∙_}
-use Prim.Native.Nat.{_+_}
 use native.Mathlib.Omega.{arith}
-use lib.ListN.{length, length-append}
+use Rattle.rules.specs.Text.{text}
 use Rattle.text.specs.Wrote.{wrote-both}
 use Rattle.listing.specs.Volume.{count-length}
 use borrow.Author.Needs.{needs}
@@ -35,7 +32,7 @@ returns c =
     let a = b₁ .before .before .before .before .args in
     let n = count-length (a .live) (a .held) in
     wrote-both _ _ _ _ _ _ _ _ (omega arith) (b₁ .put-counted .ensures)
-    (wrote-both _ _ _ _ _ _ _ (0x0A ∷ []) (omega arith) (b₂ .put-counted2 .ensures) (b₃ .put-byte .ensures))
+    (wrote-both _ _ _ _ _ _ _ (text "\n") (omega arith) (b₂ .put-counted2 .ensures) (b₃ .put-byte .ensures))
 
 pub put-count-spec : {M : Type 1} → statement M
 put-count-spec =

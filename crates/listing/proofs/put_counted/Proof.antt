@@ -1,7 +1,7 @@
 use mathlib.Core.Path.{ap}
 use native.Mathlib.Omega.{arith}
 use lib.ListN.{length}
-use Rattle.rules.specs.Dates.Text.{wide-one}
+use Rattle.rules.specs.Text.Laws.{wide-one}
 use Rattle.text.specs.Wrote.{wrote-both}
 use Rattle.listing.proofs.put_counted.Statement.{statement}
 use Rattle.listing.proofs.put_counted.Tie as tie

@@ -1,9 +1,9 @@
-use mathlib.Core.List.{[], _∷_}
 use mathlib.Core.Path.{ap}
 use native.Mathlib.Omega.{arith}
 use denote.Ref.{now}
 use lib.ListN.{length, length-append}
 use Rattle.rules.specs.Index.{volumeName}
+use Rattle.rules.specs.Text.{text}
 use Rattle.text.specs.Wrote.{wrote-both}
 use Rattle.listing.specs.Volume.{lent-volume}
 use borrow.Author.Needs.{needs}
@@ -32,13 +32,13 @@ put-bytes-requires : tie.Need-put-bytes-requires
 put-bytes-requires c κs =
     let s = c .before .before .before .before .before in
     let img = now (s .args .img) in
-    omega (arith, ap length (lent-volume img (s .pre .0) _ (c .before .before .volume-name-len .ensures .0)), length-append (volumeName img) (0x0A ∷ []))
+    omega (arith, ap length (lent-volume img (s .pre .0) _ (c .before .before .volume-name-len .ensures .0)), length-append (volumeName img) (text "\n"))
 
 put-byte-requires : tie.Need-put-byte-requires
 put-byte-requires c κs =
     let s = c .before .before .before .before .before .before .before .before .before in
     let img = now (s .args .img) in
-    omega (arith, ap length (lent-volume img (s .pre .0) _ (c .before .before .before .before .before .before .volume-name-len .ensures .0)), length-append (volumeName img) (0x0A ∷ []))
+    omega (arith, ap length (lent-volume img (s .pre .0) _ (c .before .before .before .before .before .before .volume-name-len .ensures .0)), length-append (volumeName img) (text "\n"))
 
 same-length : tie.Need-same-length
 same-length c = search needs
@@ -50,8 +50,8 @@ returns c =
     let s = b₁ .before .before .before .before .before .before in
     let img = now (s .args .img) in
     let w = rw (lent-volume img (s .pre .0) _ (b₁ .before .before .before .volume-name-len .ensures .0)) at (b₁ .put-bytes .ensures) in
-    let n = length-append (volumeName img) (0x0A ∷ []) in
-    wrote-both _ _ _ _ _ _ (volumeName img) (0x0A ∷ []) (omega arith) w (b₂ .put-byte .ensures)
+    let n = length-append (volumeName img) (text "\n") in
+    wrote-both _ _ _ _ _ _ (volumeName img) (text "\n") (omega arith) w (b₂ .put-byte .ensures)
 
 pub put-name-spec : {M : Type 1} → statement M
 put-name-spec =

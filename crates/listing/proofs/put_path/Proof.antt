@@ -1,9 +1,9 @@
-use mathlib.Core.List.{[], _∷_}
 use native.Mathlib.Omega.{arith}
 use mathlib.Core.Path.{ap}
 use denote.Ref.{now}
 use lib.ListN.{length, length-append}
 use Rattle.index.specs.View.{headView}
+use Rattle.rules.specs.Text.{text}
 use Rattle.text.specs.Wrote.{wrote-both}
 use Rattle.listing.proofs.put_path.Statement.{statement}
 use Rattle.listing.proofs.put_path.Tie as tie
@@ -16,11 +16,11 @@ path-of-requires c κs = let s = c .before .before .before .before .before .befo
 
 put-bytes-requires : tie.Need-put-bytes-requires
 put-bytes-requires c κs = let a = c .before .before .before .before .before .before .before .before .args in
-    omega (arith, length-append (headView (now (a .img)) (a .h) .path) (0x0A ∷ []), ap length (c .path-of .ensures))
+    omega (arith, length-append (headView (now (a .img)) (a .h) .path) (text "\n"), ap length (c .path-of .ensures))
 
 put-byte-requires-2 : tie.Need-put-byte-requires-2
 put-byte-requires-2 c κs = let a = c .before .before .before .before .before .before .before .before .before .before .before .before .args in
-    omega (arith, length-append (headView (now (a .img)) (a .h) .path) (0x0A ∷ []), ap length (c .before .before .before .before .path-of .ensures))
+    omega (arith, length-append (headView (now (a .img)) (a .h) .path) (text "\n"), ap length (c .before .before .before .before .path-of .ensures))
 
 same-length : tie.Need-same-length
 same-length c = omega arith
@@ -32,10 +32,10 @@ returns c =
     let b₁ = b₂ .before .before .before .before .before in
     let a = b₁ .before .before .before .before .args in
     let p = headView (now (a .img)) (a .h) .path in
-    let n = length-append p (0x0A ∷ []) in
+    let n = length-append p (text "\n") in
     let w = rw (b₂ .before .path-of .ensures) at (b₂ .put-bytes .ensures) in
-    wrote-both _ _ _ _ _ _ (0x20 ∷ []) _ (omega arith) (b₁ .put-byte .ensures)
-    (wrote-both _ _ _ _ _ _ p (0x0A ∷ []) (omega arith) w (b₃ .put-byte2 .ensures))
+    wrote-both _ _ _ _ _ _ (text " ") _ (omega arith) (b₁ .put-byte .ensures)
+    (wrote-both _ _ _ _ _ _ p (text "\n") (omega arith) w (b₃ .put-byte2 .ensures))
 
 pub put-path-spec : {M : Type 1} → statement M
 put-path-spec =

@@ -1,8 +1,6 @@
-use mathlib.Core.Path.{ap}
-use mathlib.Core.List.{[], _∷_}
 use native.Mathlib.Omega.{arith}
-use lib.ListN.{length, length-append}
-use Rattle.rules.specs.Dates.{decimal}
+use lib.ListN.{length-append}
+use Rattle.rules.specs.Text.{text, decimal}
 use Rattle.rules.specs.Listing.{refusedLine}
 use Rattle.text.specs.Wrote.{wrote-both}
 use borrow.Author.Needs.{needs}
@@ -14,11 +12,11 @@ slice-aggregate-put-counted c = search needs
 
 put-counted-requires : tie.Need-put-counted-requires
 unfolding refusedLine
-put-counted-requires c κs = let a = c .before .before .before .args in omega (arith, length-append (decimal (a .n)) (0x0A ∷ []))
+put-counted-requires c κs = let a = c .before .before .before .args in omega (arith, length-append (decimal (a .n)) (text "\n"))
 
 put-byte-requires : tie.Need-put-byte-requires
 unfolding refusedLine
-put-byte-requires c κs = let a = c .before .before .before .before .before .before .before .args in omega (arith, length-append (decimal (a .n)) (0x0A ∷ []))
+put-byte-requires c κs = let a = c .before .before .before .before .before .before .before .args in omega (arith, length-append (decimal (a .n)) (text "\n"))
 
 same-length : tie.Need-same-length
 same-length c = omega arith
@@ -28,7 +26,7 @@ unfolding refusedLine
 returns c =
     let b₂ = c .before .before in
     let b₁ = b₂ .before .before .before .before in
-    wrote-both _ _ _ _ _ _ _ _ (omega (arith, length-append (decimal (c .before .before .before .before .before .before .before .before .before .before .args .n)) (0x0A ∷ []))) (b₁ .put-counted .ensures) (b₂ .put-byte .ensures)
+    wrote-both _ _ _ _ _ _ _ _ (omega (arith, length-append (decimal (c .before .before .before .before .before .before .before .before .before .before .args .n)) (text "\n"))) (b₁ .put-counted .ensures) (b₂ .put-byte .ensures)
 
 pub put-refused-spec : {M : Type 1} → statement M
 put-refused-spec = tie.close (tie.spec slice-aggregate-put-counted put-counted-requires put-byte-requires same-length returns)

@@ -4,8 +4,7 @@ use native.Mathlib.Omega.{arith}
 use mir.Syntax.{w64}
 use mir.ValLaws.{toZ-ofZ}
 use borrow.Author.Needs.{needs}
-use Rattle.rules.specs.Dates.{monthOf, dateAt}
-use Rattle.rules.specs.Dates.Laws.{yearOf-lt, dayOf-lt, carry-le}
+use Rattle.rules.specs.Dates.Quick.{monthOf, dateAt, yearOf-lt, dayOf-lt, carry-le}
 use Rattle.stamps.proofs.date_at.Statement.{statement}
 use Rattle.stamps.proofs.date_at.Tie as tie
 

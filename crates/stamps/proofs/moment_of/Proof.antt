@@ -1,12 +1,12 @@
 -- `stamps::moment_of` meets its contract. That a moment is in range is a law of the rules. Assumes nothing.
-use mathlib.Core.Path.{_≡_, _∙_}
+use mathlib.Core.Path.{_≡_}
 use lib.IntN.{ℤ}
 use mir.Syntax.{w64}
 use mir.Val.{SFits, ofZ, toZ}
 use mir.ValLaws.{toZ-ofZ}
 use borrow.Author.Needs.{needs}
 use Rattle.rules.specs.Dates.{Moment, momentOf, daysOf, secondsOf, secondOfDay}
-use Rattle.rules.specs.Dates.Laws.{days-small, InRange, moment-in-range}
+use Rattle.rules.specs.Dates.Range.{days-small, InRange, moment-in-range}
 use Rattle.stamps.proofs.moment_of.Statement.{statement}
 use Rattle.stamps.proofs.moment_of.Tie as tie
 

@@ -1,7 +1,6 @@
 -- `stamps::month_day` meets its contract: March to December are the months below 10. Assumes nothing.
 use mathlib.Core.Path.{refl, sym}
-use Rattle.rules.specs.Dates.{monthOf, monthStart}
-use Rattle.rules.specs.Dates.Laws.{calendarMonth-low, calendarMonth-high, carry-low, carry-high}
+use Rattle.rules.specs.Dates.Quick.{monthOf, monthStart, calendarMonth-low, calendarMonth-high, carry-low, carry-high}
 use borrow.Author.Needs.{needs}
 use Rattle.stamps.proofs.month_day.Statement.{statement}
 use Rattle.stamps.proofs.month_day.Tie as tie

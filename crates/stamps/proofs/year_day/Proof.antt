@@ -1,6 +1,6 @@
 -- `stamps::year_day` meets its contract. Assumes nothing.
 use mathlib.Core.Path.{refl}
-use Rattle.rules.specs.Dates.{century, inCentury, yearOfFour, yearOf, dayOf}
+use Rattle.rules.specs.Dates.Quick.{century, inCentury, yearOfFour, yearOf, dayOf}
 use borrow.Author.Needs.{needs}
 use Rattle.stamps.proofs.year_day.Statement.{statement}
 use Rattle.stamps.proofs.year_day.Tie as tie

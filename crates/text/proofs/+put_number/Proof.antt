@@ -8,8 +8,8 @@ use native.Mathlib.Omega.{arith}
 use denote.Ref.{now}
 use lib.ListN.{length, length-append}
 use borrow.Author.Tests.{ltb-true, ltb-false}
-use Rattle.rules.specs.Dates.{digit, decimal, widened}
-use Rattle.rules.specs.Dates.Text.{wide-low, wide-high}
+use Rattle.rules.specs.Text.{digit, decimal, widened}
+use Rattle.rules.specs.Text.Laws.{wide-low, wide-high}
 use Rattle.text.specs.Wrote.{wrote-both}
 use borrow.Author.Needs.{needs}
 use borrow.Fn.Kinds.{In}

@@ -1,5 +1,5 @@
 -- The digit is the definition's. Assumes nothing.
-use Rattle.rules.specs.Dates.{digit}
+use Rattle.rules.specs.Text.{digit}
 use borrow.Author.Needs.{needs}
 use Rattle.text.proofs.digit_of.Statement.{statement}
 use Rattle.text.proofs.digit_of.Tie as tie

@@ -1,12 +1,13 @@
 -- The sign says which text it is. Assumes nothing.
-use mathlib.Core.List.{[], _∷_}
+use mathlib.Core.List.{_++_}
 use mathlib.Core.Path.{_≡_, ap}
 use native.Mathlib.Omega.{arith}
 use lib.IntN.{natAbs}
 use lib.ListN.{length}
 use mir.Syntax.{w64}
 use mir.ValLaws.{toZ-ofZ}
-use Rattle.rules.specs.Dates.{decimal, widened, yearText}
+use Rattle.rules.specs.Text.{text, decimal, widened}
+use Rattle.rules.specs.Dates.{yearText}
 use Rattle.rules.specs.Dates.Text.{year-up, year-down}
 use Rattle.stamps.proofs.Signed.{is-neg, is-pos}
 use Rattle.text.specs.Wrote.{wrote-both}
@@ -19,7 +20,7 @@ distance-requires c κs = tt
 size : (c : tie.After-distance) → c .distance .result ≡ natAbs (c .before .before .args .year)
 size c = cc (toZ-ofZ w64 (c .before .before .args .year) (c .before .before .fits .year))
 
-down : (c : tie.Then1) → yearText (c .before .before .before .args .year) ≡ 0x2D ∷ widened 4 (decimal (c .before .distance .result))
+down : (c : tie.Then1) → yearText (c .before .before .before .args .year) ≡ text "-" ++ widened 4 (decimal (c .before .distance .result))
 down c =
     let s = c .before .before .before in
     let (n, e, h) = is-neg (s .args .year) (s .fits .year) (c .if1 .taken) in
@@ -44,7 +45,7 @@ returns : tie.Need-returns
 returns c =
     let d = down (c .before .before .before .before .before .before .before .before) in
     rw d
-    (wrote-both _ _ _ _ _ _ (0x2D ∷ []) _ (omega (arith, ap length d)) (c .before .before .before .before .before .before .put-byte .ensures) (c .before .before .put-number .ensures))
+    (wrote-both _ _ _ _ _ _ (text "-") _ (omega (arith, ap length d)) (c .before .before .before .before .before .before .put-byte .ensures) (c .before .before .put-number .ensures))
 
 put-number-requires-2 : tie.Need-put-number-requires-2
 put-number-requires-2 c κs = omega (arith, ap length (up (c .before)))
