@@ -74,8 +74,8 @@ abbrev pub Formats : List ℕ → ℕ → ℕ → List ℕ → ℤ → ℕ → L
 Formats s bytesPerBlock reserved name stamp r t = writtenAs r t ≡ formatOf s bytesPerBlock reserved name stamp
 
 -- ---- sfs_open: the volume's numbers, and its name in the output
-abbrev pub Opens : List ℕ → List ℕ → Volume → List ℕ → Type 0
-Opens s out r after = volumeView s after r ≡ openOf s out
+abbrev pub OpensVolume : List ℕ → List ℕ → Volume → List ℕ → Type 0
+OpensVolume s out r after = volumeView s after r ≡ openOf s out
 
 -- ---- sfs_find: the numbers of the path's live entry
 abbrev pub Finds : List ℕ → List ℕ → Entry → Type 0

@@ -19,7 +19,7 @@ use Rattle.contracts.specs.Contracts.Laws.{text-done}
 use Rattle.contracts.specs.declared.Content.{Content}
 use Rattle.laws.proofs.Lists.Every.{all-weaken}
 use Rattle.laws.proofs.Lists.Perms.{perm-length}
-use Rattle.demand3.specs.Runs.{passedAs, Answered, Step, Run, toldOf, ReadBack, Counted, ListingCounts, HeldByCode, Demand3OfCode}
+use Rattle.demand3.specs.Runs.{passedAs, Answered, Served, Run, toldOf, BytesBack, Counted, ListingCounts, HeldByCode, Demand3OfCode}
 use Rattle.demand3.proofs.Theorem.{demand3}
 
 -- ---- an answer is the definitions' step
@@ -39,15 +39,15 @@ answered-step s (delete path stamp) p (r, t, e, h) = same-passed _ _ p e h
 answered-step s (reclaim stamp) p (r, t, e, h) = same-passed _ _ p e h
 
 -- ---- a run leaves the definitions' image, and tells the same
-abbrev calls : List Step → List Call
+abbrev calls : List Served → List Call
 calls xs = map (λ x. x .call) xs
 
-run-image : (s : List ℕ) (xs : List Step) (u : List ℕ) → Run s xs u → u ≡ run s (calls xs)
+run-image : (s : List ℕ) (xs : List Served) (u : List ℕ) → Run s xs u → u ≡ run s (calls xs)
 unfolding run
 run-image s [] u e = e
 run-image s (x ∷ xs) u (a, r) = run-image (x .passed .image) xs u r ∙ ap (λ (q : Passed). run (q .image) (calls xs)) (answered-step s (x .call) (x .passed) a)
 
-run-told : (s : List ℕ) (h : History) (xs : List Step) (u : List ℕ) → Run s xs u → toldOf h xs ≡ told s h (calls xs)
+run-told : (s : List ℕ) (h : History) (xs : List Served) (u : List ℕ) → Run s xs u → toldOf h xs ≡ told s h (calls xs)
 unfolding toldOf told
 run-told s h [] u e = refl
 run-told s h (x ∷ xs) u (a, r) =
@@ -55,11 +55,11 @@ run-told s h (x ∷ xs) u (a, r) =
     ∙ ap (λ (q : Passed). told (q .image) (feed h (x .call) (q .answered)) (calls xs)) (answered-step s (x .call) (x .passed) a)
 
 -- ---- what sfs_read answers
-pub reads-back : (u : List ℕ) (h : History) → Holds u h → (path out : List ℕ) (r : Content) (after : List ℕ) → Reads u path out r after
-    → All (λ k. ReadBack k path out r after) (h .kept)
+pub bytes-back : (u : List ℕ) (h : History) → Holds u h → (path out : List ℕ) (r : Content) (after : List ℕ) → Reads u path out r after
+    → All (λ k. BytesBack k path out r after) (h .kept)
 unfolding done
-reads-back u h holds path out r after e =
-    all-weaken (ReadsBack u) (λ k. ReadBack k path out r after) (λ k back live file same room.
+bytes-back u h holds path out r after e =
+    all-weaken (ReadsBack u) (λ k. BytesBack k path out r after) (λ k back live file same room.
     let f = (rw same at e) ∙ back live file out room in
     (ap (λ o. o .refusal) f, ap (λ o. o .answer) f, ap (λ o. o .output) f))
     (h .kept) (holds .reads)
@@ -74,14 +74,18 @@ pub listing-counts : (u : List ℕ) (h : History) → Holds u h → (out : List 
     → ListingCounts h u out r after
 listing-counts u h holds out r after e short room =
     let f : text r after ≡ text (length (listingOf u)) (splice out 0 (listingOf u)) = e ∙ text-done u out room in
-    let es = entries (holds .volume) in
-    (listingOf u, ap (λ x. x .length) f, ap (λ x. x .output) f, record {
-      entries = es;
-      lines = (volumeName u ++ (0x0A ∷ [])) ++ linesOf (only isLive es);
-      last = listing-is u (holds .volume) (holds .opens) short ∙ sym (append-assoc (volumeName u ++ (0x0A ∷ [])) (linesOf (only isLive es)) (countLine es));
-      live = sym (length-map (only isLive es) nameOfEntry) ∙ perm-length (holds .names) ∙ length-map (only (λ k. k .live) (h .kept)) nameOfKept;
-      blocks = holds .blocks;
-    })
+    let es = entries (holds .volume) in (
+      listingOf u,
+      ap (λ x. x .length) f,
+      ap (λ x. x .output) f,
+      record {
+        entries = es;
+        lines = (volumeName u ++ (0x0A ∷ [])) ++ linesOf (only isLive es);
+        last = listing-is u (holds .volume) (holds .opens) short ∙ sym (append-assoc (volumeName u ++ (0x0A ∷ [])) (linesOf (only isLive es)) (countLine es));
+        live = sym (length-map (only isLive es) nameOfEntry) ∙ perm-length (holds .names) ∙ length-map (only (λ k. k .live) (h .kept)) nameOfKept;
+        blocks = holds .blocks;
+      },
+    )
 
 -- ---- all together
 pub demand3-of-code : Demand3OfCode
@@ -90,4 +94,4 @@ demand3-of-code s t bytesPerBlock reserved name stamp e xs u r =
     let i : formatOf s bytesPerBlock reserved name stamp .image ≡ t = sym (ap (λ o. o .image) e) in
     let d = rw i at (demand3 s bytesPerBlock reserved name stamp (sym (ap (λ o. o .refusal) e)) (calls xs)) in
     let holds : Holds u (toldOf h xs) = rw (run-image t xs u r, run-told t h xs u r) d in
-    record { holds = holds; reads = reads-back u (toldOf h xs) holds; listing = listing-counts u (toldOf h xs) holds }
+    record { holds = holds; reads = bytes-back u (toldOf h xs) holds; listing = listing-counts u (toldOf h xs) holds }

@@ -7,7 +7,8 @@ use contracts::Volume;
 ghost use Rattle.rules.specs.Lists.{All};
 ghost use Rattle.rules.specs.Writing.{newFile, newDirectory};
 ghost use Rattle.rules.specs.History.{History, Holds, format, openVolume, find, list, read, create, delete, reclaim};
-ghost use Rattle.demand3.specs.Runs.{Answered, passedAs, ReadBack, ListingCounts};
+ghost use Rattle.contracts.specs.Contracts.{WritesListing};
+ghost use Rattle.demand3.specs.Runs.{Answered, passedAs, BytesBack, ListingCounts};
 
 pub fn serve_format(
     image: &mut [u8],
@@ -42,7 +43,7 @@ pub fn serve_list(image: &[u8], slot: u64, out: &mut [u8]) -> Listed
 // A step, and a live file of the image's history comes back.
 pub fn serve_read(image: &[u8], path: &[u8], out: &mut [u8]) -> Content
     ensures { λ r. ⌜ Answered (now (image .entry)) (read (now (path .entry)) (now (out .entry))) (passedAs (r .refusal) (now (image .entry))) ⌝ }
-    ensures back { λ r. ⌜ ((h : History) → Holds (now (image .entry)) h → All (λ k. ReadBack k (now (path .entry)) (now (out .entry)) r (now (out .exit))) (h .kept)) ⌝ }
+    ensures back { λ r. ⌜ ((h : History) → Holds (now (image .entry)) h → All (λ k. BytesBack k (now (path .entry)) (now (out .entry)) r (now (out .exit))) (h .kept)) ⌝ }
 {
     sfs::sfs_read(image, path, out)
 }
@@ -71,9 +72,10 @@ pub fn serve_reclaim(image: &mut [u8], stamp: i64) -> u32
     sfs::sfs_reclaim(image, stamp)
 }
 
-// The listing is no call of the history; its counts are the history's.
+// The listing is no call of the history, but its counts are the history's.
 pub fn serve_listing(image: &[u8], out: &mut [u8]) -> u64
-    ensures { λ r. ⌜ ((h : History) → Holds (now (image .entry)) h → ListingCounts h (now (image .entry)) (now (out .entry)) r (now (out .exit))) ⌝ }
+    ensures { λ r. ⌜ WritesListing (now (image .entry)) (now (out .entry)) r (now (out .exit)) ⌝ }
+    ensures counts { λ r. ⌜ ((h : History) → Holds (now (image .entry)) h → ListingCounts h (now (image .entry)) (now (out .entry)) r (now (out .exit))) ⌝ }
 {
     sfs::sfs_listing(image, out)
 }

@@ -17,7 +17,7 @@ ghost use Rattle.rules.specs.Outcome.{noVolume, noEntry, noneListed, numbersOf}
 ghost use Rattle.rules.specs.Outcome.Laws.{denied};
 ghost use Rattle.rules.specs.Reading.{volumeNumbers};
 ghost use Rattle.rules.specs.Index.{volumeName, runType};
-ghost use Rattle.contracts.specs.Contracts.{Opens, Finds, Lists, Reads, volumeView, volumeAnswer, entryView, entryAnswer, contentView, listedView, listedAnswer};
+ghost use Rattle.contracts.specs.Contracts.{OpensVolume, Finds, Lists, Reads, volumeView, volumeAnswer, entryView, entryAnswer, contentView, listedView, listedAnswer};
 ghost use Rattle.geometry.specs.View.{geometryView};
 ghost use Rattle.index.specs.View.{headView};
 ghost use Rattle.index.specs.Steps.{HeadIn};
@@ -65,7 +65,7 @@ fn volume_numbers(img: &[u8], g: Geometry, n: usize) -> Volume
 
 fn open_volume(img: &[u8], g: Geometry, out: &mut [u8]) -> Volume
     requires { ⌜ Opened (now img) g ⌝ }
-    ensures { λ r. ⌜ Opens (now (img .entry)) (now (out .entry)) r (now (out .exit)) ⌝ }
+    ensures { λ r. ⌜ OpensVolume (now (img .entry)) (now (out .entry)) r (now (out .exit)) ⌝ }
 {
     let n = super_block::volume_name_len(img);
     if out.len() < n {
@@ -78,7 +78,7 @@ fn open_volume(img: &[u8], g: Geometry, out: &mut [u8]) -> Volume
 }
 
 pub fn open(img: &[u8], out: &mut [u8]) -> Volume
-    ensures { λ r. ⌜ Opens (now (img .entry)) (now (out .entry)) r (now (out .exit)) ⌝ }
+    ensures { λ r. ⌜ OpensVolume (now (img .entry)) (now (out .entry)) r (now (out .exit)) ⌝ }
 {
     match judging::judge(img) {
         Judged::Refused(n) => no_volume(n as u32),

@@ -4,7 +4,7 @@ use contracts::Content;
 use contracts::Entry;
 use contracts::Listed;
 use contracts::Volume;
-ghost use Rattle.contracts.specs.Contracts.{Formats, Opens, Finds, Lists, Reads, CreatesFile, CreatesDirectory, Deletes, Reclaims, WritesListing};
+ghost use Rattle.contracts.specs.Contracts.{Formats, OpensVolume, Finds, Lists, Reads, CreatesFile, CreatesDirectory, Deletes, Reclaims, WritesListing};
 
 #[no_mangle]
 pub extern "C" fn sfs_format(
@@ -16,12 +16,18 @@ pub extern "C" fn sfs_format(
 ) -> u32
     ensures { λ r. ⌜ Formats (now (image .entry)) «bytes_per_block» reserved (now (name .entry)) stamp r (now (image .exit)) ⌝ }
 {
-    formatting::format(image, bytes_per_block, reserved, name, stamps::to_bits(stamp))
+    formatting::format(
+        image,
+        bytes_per_block,
+        reserved,
+        name,
+        stamps::to_bits(stamp),
+    )
 }
 
 #[no_mangle]
 pub extern "C" fn sfs_open(image: &[u8], out: &mut [u8]) -> Volume
-    ensures { λ r. ⌜ Opens (now (image .entry)) (now (out .entry)) r (now (out .exit)) ⌝ }
+    ensures { λ r. ⌜ OpensVolume (now (image .entry)) (now (out .entry)) r (now (out .exit)) ⌝ }
 {
     reading::open(image, out)
 }

@@ -101,8 +101,8 @@ file-live : (e : Entry) → e .kind ≡ typeFile → (isLive e ≡ true) × (fil
 unfolding isLive liveType fileType
 file-live e k = rw k (refl, refl)
 
-abbrev pub SameBlocks : List ℕ → List ℕ → Geometry → Entry → Type 0
-SameBlocks s t g e = part s (e .start * blockLength g) (blocksOf e * blockLength g) ≡ part t (e .start * blockLength g) (blocksOf e * blockLength g)
+abbrev pub SameFile : List ℕ → List ℕ → Geometry → Entry → Type 0
+SameFile s t g e = part s (e .start * blockLength g) (blocksOf e * blockLength g) ≡ part t (e .start * blockLength g) (blocksOf e * blockLength g)
 
 same-bytes : (s t : List ℕ) (a : Agree s t) (path : List ℕ) (e : Entry) → lookup path (entries (a .volume)) ≡ some e → e .kind ≡ typeFile
     → fileBytes s (a .volume .geometry) e ≡ fileBytes t (a .volume .geometry) e
@@ -113,7 +113,7 @@ same-bytes s t a path e f k =
     let l = file-live e k in
     let at = first-says (liveAt path) es e f in
     let good = all-first _ (liveAt path) es e (sound-says g es (judge-opens s (a .volume) (a .opens) .regions-sound) .each) at in
-    let blocks = all-first _ (liveAt path) es e (only-says (SameBlocks s t g) liveFile es (a .files)) at (and-both _ _ (l .0) (l .1)) in
+    let blocks = all-first _ (liveAt path) es e (only-says (SameFile s t g) liveFile es (a .files)) at (and-both _ _ (l .0) (l .1)) in
     take-same (blocksOf e * blockLength g) _ _ blocks (e .length) (file-region g e (l .1) good .fits)
 
 pub two-images : TwoImages

@@ -25,9 +25,9 @@ use Rattle.rules.specs.Refusals.Laws.{Opens, judge-opens}
 use Rattle.rules.specs.History.{Agree, SameAnswers}
 use Rattle.laws.proofs.Lists.Every.{not-both, all-weaken, all-and, all-join, all-at, all-placed, pairs-split, only-holds}
 use Rattle.laws.proofs.Entries.Regions.{sound-says, FileRegion, file-region, region-bytes}
-use Rattle.two_images.specs.Unseen.{liveFile, Clear, Unseen, Differ}
+use Rattle.two_images.specs.Unseen.{liveFile, OutOfBlocks, Unseen, DifferUnseen}
 use Rattle.two_images.proofs.Reopens.{reopens}
-use Rattle.two_images.proofs.TwoImages.{SameBlocks, two-images}
+use Rattle.two_images.proofs.TwoImages.{SameFile, two-images}
 
 -- ---- images that differ in unseen bytes alone agree
 -- the live files of an image that opens
@@ -54,10 +54,10 @@ module _ (s t : List ℕ) (long : length s ≡ length t) where
       let k : i < length s - at = rw (length-drop at s) at h in
       getD-drop at s i 0 ∙ same (at + i) (omega arith) (omega arith) ∙ sym (getD-drop at t i 0))
 
-seen-byte : (s t : List ℕ) (d : Differ s t) (p : ℕ) → p < length s → (Unseen s (d .volume) p → ⊥) → byteAt s p ≡ byteAt t p
+seen-byte : (s t : List ℕ) (d : DifferUnseen s t) (p : ℕ) → p < length s → (Unseen s (d .volume) p → ⊥) → byteAt s p ≡ byteAt t p
 seen-byte s t d p h seen = ⊎-elim (λ e. e) (λ u. absurd (seen u)) (d .bytes p h)
 
-pub differ-agree : (s t : List ℕ) → Differ s t → Agree s t
+pub differ-agree : (s t : List ℕ) → DifferUnseen s t → Agree s t
 differ-agree s t d =
     record {
       volume = v;
@@ -90,9 +90,9 @@ differ-agree s t d =
     live : List Entry
     live = only liveFile (entries v)
 
-    same-files : All (SameBlocks s t g) live
+    same-files : All (SameFile s t g) live
     same-files =
-        all-placed (SameBlocks s t g) live (λ before e after w.
+        all-placed (SameFile s t g) live (λ before e after w.
         let r : FileRegion g e = all-at _ before e after (rw w at (live-files s v o)) in
         let b : e .start * blockLength g + blocksOf e * blockLength g ≡ e .end * blockLength g = region-bytes e (blockLength g) (r .order) in
         let inside : e .end * blockLength g ≤ length s =
@@ -101,7 +101,7 @@ differ-agree s t d =
         seen-byte s t d p (omega (arith, b, inside)) (λ u.
         ⊎-elim (λ l. omega arith) (λ h. omega (arith, b)) (all-at _ before e after (rw w at (u .files))))))
 
-pub differ-alike : (s t : List ℕ) → Differ s t → SameAnswers s t
+pub differ-alike : (s t : List ℕ) → DifferUnseen s t → SameAnswers s t
 differ-alike s t d = two-images s t (differ-agree s t d)
 
 -- ---- what is unseen in an image that opens
@@ -121,7 +121,7 @@ module _ (s : List ℕ) (v : Volume) (opens : judge s ≡ accepted v) where
       record {
         fields = f;
         index = i;
-        files = all-weaken (FileRegion g) (Clear g p) (λ e r.
+        files = all-weaken (FileRegion g) (OutOfBlocks g p) (λ e r.
             ⊎-elim
             (λ h. ⊎-elim
             (λ z. inr (omega (arith, no-blocks (e .end) (blockLength g) z)))
@@ -164,11 +164,11 @@ unfolding isLive liveType fileType
 dead d k = rw k (refl, refl)
 
 -- an entry apart from one in whose blocks the byte lies
-clear-of : (g : Geometry) (p : ℕ) (d : Entry) → d .start * blockLength g ≤ p → p < d .end * blockLength g → (e : Entry) → apart d e ≡ true → Clear g p e
+clear-of : (g : Geometry) (p : ℕ) (d : Entry) → d .start * blockLength g ≤ p → p < d .end * blockLength g → (e : Entry) → apart d e ≡ true → OutOfBlocks g p e
 unfolding apart
 clear-of g p d low high e h = go (leb (d .end) (e .start)) refl h
   where
-    go : (t : Bool) → leb (d .end) (e .start) ≡ t → (t || leb (e .end) (d .start)) ≡ true → Clear g p e
+    go : (t : Bool) → leb (d .end) (e .start) ≡ t → (t || leb (e .end) (d .start)) ≡ true → OutOfBlocks g p e
     go true q r = inl (omega (arith, mul-le-mul-right (blockLength g) (leb-true (d .end) (e .start) q)))
     go false q r = inr (omega (arith, mul-le-mul-right (blockLength g) (leb-true (e .end) (d .start) r)))
 
@@ -191,7 +191,7 @@ deleted-unseen s v opens d before after e k p low high =
     record {
       fields = inr (omega arith);
       index = omega (arith, mul-le-mul-right (blockLength g) (r .upper), areas-fit (length s) g good);
-      files = rw e (only-holds (Clear g p) liveFile (before ++ (d ∷ after))
+      files = rw e (only-holds (OutOfBlocks g p) liveFile (before ++ (d ∷ after))
           (all-join _ before (d ∷ after)
           (all-weaken _ _ (λ x c l. clear x (apart-back d x ∙ c .0)) before across)
           (λ l. absurd (not-both (liveFile d) l (dead d k .0)), all-weaken _ _ (λ x c l. clear x c) after (behind .0))));

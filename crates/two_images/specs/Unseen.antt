@@ -16,17 +16,17 @@ abbrev pub liveFile : Entry → Bool
 liveFile e = isLive e && fileType (e .kind)
 
 -- the byte p is in none of the entry's blocks
-abbrev pub Clear : Geometry → ℕ → Entry → Type 0
-Clear g p e = (p < e .start * blockLength g) ⊎ (e .end * blockLength g ≤ p)
+abbrev pub OutOfBlocks : Geometry → ℕ → Entry → Type 0
+OutOfBlocks g p e = (p < e .start * blockLength g) ⊎ (e .end * blockLength g ≤ p)
 
 -- the byte p is none of the super-block's fields, the index area and the blocks of live files
 pub record Unseen (s : List ℕ) (v : Volume) (p : ℕ) : Type 0 where
   pub fields : (p < superBlockAt) ⊎ (superBlockAt + 42 ≤ p)
   pub index : p < length s - v .geometry .indexBytes
-  pub files : All (Clear (v .geometry) p) (only liveFile (entries v))
+  pub files : All (OutOfBlocks (v .geometry) p) (only liveFile (entries v))
 
 -- s opens, and t is like it but for bytes that are unseen
-pub record Differ (s t : List ℕ) : Type 0 where
+pub record DifferUnseen (s t : List ℕ) : Type 0 where
   pub volume : Volume
   pub opens : judge s ≡ accepted volume
   pub lengths : length s ≡ length t

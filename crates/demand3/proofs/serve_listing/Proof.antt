@@ -10,7 +10,7 @@ same-length : tie.Need-same-length
 same-length c = search needs
 
 returns : tie.Need-returns
-returns c = λ h holds. listing-counts _ h holds _ _ _ (c .before .before .sfs-listing .ensures)
+returns c = let e = c .before .before .sfs-listing .ensures in (e, λ h holds. listing-counts _ h holds _ _ _ e)
 
 pub serve-listing-spec : {M : Type 1} → statement M
 serve-listing-spec = tie.close (tie.spec sfs-listing-requires same-length returns)
