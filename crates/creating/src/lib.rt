@@ -3,13 +3,12 @@
 use planning::Plan;
 ghost use mathlib.Core.Path.{_≡_};
 ghost use Rattle.rules.specs.Fields.{signedOf};
-ghost use Rattle.rules.specs.Writing.{createOf};
-ghost use Rattle.rules.specs.Writing.Laws.{writtenAs};
+ghost use Rattle.contracts.specs.Contracts.{Creates};
 ghost use Rattle.placing.specs.Site.{newOf};
 
 // A file with these bytes, or a directory, whose bytes are not looked at.
 pub fn create(img: &mut [u8], file: bool, path: &[u8], bytes: &[u8], stamp: u64) -> u32
-    ensures { λ r. ⌜ writtenAs r (now (img .exit)) ≡ createOf (now (img .entry)) (newOf file (now (bytes .entry))) (now (path .entry)) (signedOf stamp) ⌝ }
+    ensures { λ r. ⌜ Creates (now (img .entry)) (newOf file (now (bytes .entry))) (now (path .entry)) (signedOf stamp) r (now (img .exit)) ⌝ }
 {
     match planning::plan_create(img, file, path, bytes, stamp) {
         Plan::Refused(n) => n as u32,

@@ -5,3 +5,4 @@ pub mod Calls
 pub mod Linked
 pub mod Demand
 pub mod Theorem
+pub mod OfCode

@@ -14,8 +14,8 @@ ghost use lib.ListN.{length};
 ghost use Rattle.rules.specs.Fields.{splice, signedOf};
 ghost use Rattle.rules.specs.SuperBlock.{Geometry as Sizes};
 ghost use Rattle.rules.specs.Index.{deletedType, slotAt, unusedBytes};
-ghost use Rattle.rules.specs.Writing.{deletedKind, deleteOf, cleared, reclaimOf};
-ghost use Rattle.rules.specs.Writing.Laws.{writtenAs};
+ghost use Rattle.rules.specs.Writing.{deletedKind, cleared};
+ghost use Rattle.contracts.specs.Contracts.{Deletes, Reclaims};
 ghost use Rattle.geometry.specs.View.{geometryView};
 ghost use Rattle.index.specs.Steps.{Walks, HeadIn, entriesFrom};
 ghost use Rattle.judging.specs.View.{Opened};
@@ -81,7 +81,7 @@ fn mark(img: &mut [u8], at: usize, kind: u8, stamp: u64)
 
 // The refusal, 0 on success; `stamp` is the stamp's 64 bits.
 pub fn delete(img: &mut [u8], path: &[u8], stamp: u64) -> u32
-    ensures { λ r. ⌜ writtenAs r (now (img .exit)) ≡ deleteOf (now (img .entry)) (now (path .entry)) (signedOf stamp) ⌝ }
+    ensures { λ r. ⌜ Deletes (now (img .entry)) (now (path .entry)) (signedOf stamp) r (now (img .exit)) ⌝ }
 {
     match plan_delete(img, path) {
         Doom::Refused(n) => n as u32,
@@ -149,7 +149,7 @@ fn write_reclaimed(img: &mut [u8], g: Geometry, stamp: u64)
 
 // The refusal, 0 on success; `stamp` is the stamp's 64 bits.
 pub fn reclaim(img: &mut [u8], stamp: u64) -> u32
-    ensures { λ r. ⌜ writtenAs r (now (img .exit)) ≡ reclaimOf (now (img .entry)) (signedOf stamp) ⌝ }
+    ensures { λ r. ⌜ Reclaims (now (img .entry)) (signedOf stamp) r (now (img .exit)) ⌝ }
 {
     match judging::judge(img) {
         Judged::Refused(n) => n as u32,

@@ -8,8 +8,8 @@ ghost use Prim.Native.Nat.{_-_, _≤_};
 ghost use lib.ListN.{length};
 ghost use Rattle.rules.specs.Fields.{splice, signedOf};
 ghost use Rattle.rules.specs.Index.{markerBytes, identifierBytes};
-ghost use Rattle.rules.specs.Writing.{freshGeometry, formatted, formatOf};
-ghost use Rattle.rules.specs.Writing.Laws.{writtenAs};
+ghost use Rattle.rules.specs.Writing.{freshGeometry, formatted};
+ghost use Rattle.contracts.specs.Contracts.{Formats};
 ghost use Rattle.geometry.specs.View.{geometryView};
 
 // The index of a fresh volume: its two slots at the end of the image.
@@ -65,7 +65,7 @@ fn fresh(n: u64, field: u8, reserved: u32, stamp: u64) -> Geometry
 
 // The refusal, 0 on success; `stamp` is the stamp's 64 bits.
 pub fn format(img: &mut [u8], bytes: u64, reserved: u64, name: &[u8], stamp: u64) -> u32
-    ensures { λ r. ⌜ writtenAs r (now (img .exit)) ≡ formatOf (now (img .entry)) bytes reserved (now (name .entry)) (signedOf stamp) ⌝ }
+    ensures { λ r. ⌜ Formats (now (img .entry)) bytes reserved (now (name .entry)) (signedOf stamp) r (now (img .exit)) ⌝ }
 {
     let n = img.len() as u64;
     if !super_block::length_good(n) {

@@ -25,8 +25,6 @@ use Rattle.rules.specs.Reading.{fileBytes, listed, readOf, listOf}
 use Rattle.laws.proofs.Lists.Every.{all-first, first-says, First}
 use Rattle.laws.proofs.Entries.Regions.{sound-says, file-region, FileRegion, region-bytes}
 use Rattle.judging.specs.View.{Opened, volumeOf}
-use Rattle.reading.specs.declared.Listed.{Listed}
-use Rattle.reading.specs.View.{listedAnswer, listedView}
 use native.Mathlib.Nat.{mul-le-mul-right}
 use Rattle.geometry.specs.View.{geometryView}
 use Rattle.geometry.specs.declared.Geometry.{Geometry as Held}
@@ -107,11 +105,6 @@ module _ (s : List ℕ) (e : Entry) (out : List ℕ) where
 pub list-found : (s : List ℕ) (v : Volume) → judge s ≡ accepted v → (slot : ℕ) (e : Entry) (out : List ℕ) → nextLive slot (entries v) ≡ some e → listOf s slot out ≡ listEntry s e out
 unfolding listOf listEntry
 list-found s v opens slot e out f = volume-judged noneListed s out _ v opens ∙ ap (λ x. conclude noneListed s out (listed s out x)) f
-
--- an answer with its refusal number is an outcome
-pub listed-outcome : (s out : List ℕ) (r : Listed) (a : ListedNumbers) → r .refusal ≡ 0 → listedAnswer r ≡ a → listedView s out r ≡ done a s out
-unfolding done
-listed-outcome s out r a z e = rw (z, e)
 
 -- what is live has a run
 pub next-run : (slot : ℕ) (es : List Entry) (e : Entry) → nextLive slot es ≡ some e → runType (e .kind) ≡ true

@@ -1,5 +1,9 @@
 // The reading calls: open, find, list and read. Each takes any image and any arguments.
 
+use contracts::Content;
+use contracts::Entry;
+use contracts::Listed;
+use contracts::Volume;
 use geometry::Geometry;
 use index::Head;
 use judging::Judged;
@@ -11,57 +15,14 @@ ghost use Prim.Native.Nat.{ℕ, _+_, _≤_};
 ghost use lib.ListN.{length};
 ghost use Rattle.rules.specs.Outcome.{noVolume, noEntry, noneListed, numbersOf};
 ghost use Rattle.rules.specs.Outcome.Laws.{denied};
-ghost use Rattle.rules.specs.Reading.{openOf, findOf, readOf, listOf, volumeNumbers};
+ghost use Rattle.rules.specs.Reading.{volumeNumbers};
 ghost use Rattle.rules.specs.Index.{volumeName, runType};
+ghost use Rattle.contracts.specs.Contracts.{OpensVolume, Finds, Lists, Reads, volumeView, volumeAnswer, entryView, entryAnswer, contentView, listedView, listedAnswer};
 ghost use Rattle.geometry.specs.View.{geometryView};
 ghost use Rattle.index.specs.View.{headView};
 ghost use Rattle.index.specs.Steps.{HeadIn};
 ghost use Rattle.judging.specs.View.{Opened};
-ghost use Rattle.reading.specs.View.{volumeView, volumeAnswer, entryView, entryAnswer, contentView, listedView, listedAnswer};
 ghost use Rattle.reading.specs.Found.{FileIn, readEntry, listEntry};
-
-#[repr(C)]
-pub struct Volume {
-    pub refusal: u32,
-    pub version: u32,
-    pub total: u64,
-    pub reserved: u64,
-    pub block: u64,
-    pub data: u64,
-    pub index: u64,
-    pub stamp: i64,
-    pub formatted: i64,
-    pub name: u64,
-}
-
-#[repr(C)]
-pub struct Entry {
-    pub refusal: u32,
-    pub kind: u32,
-    pub slot: u64,
-    pub start: u64,
-    pub end: u64,
-    pub length: u64,
-    pub stamp: i64,
-}
-
-#[repr(C)]
-pub struct Listed {
-    pub refusal: u32,
-    pub kind: u32,
-    pub slot: u64,
-    pub start: u64,
-    pub end: u64,
-    pub length: u64,
-    pub stamp: i64,
-    pub path: u64,
-}
-
-#[repr(C)]
-pub struct Content {
-    pub refusal: u32,
-    pub length: u64,
-}
 
 // ---- open
 
@@ -73,12 +34,12 @@ fn no_volume(n: u32) -> Volume
         version: 0,
         total: 0,
         reserved: 0,
-        block: 0,
+        block_length: 0,
         data: 0,
         index: 0,
         stamp: 0,
-        formatted: 0,
-        name: 0,
+        volume_stamp: 0,
+        name_length: 0,
     }
 }
 
@@ -93,18 +54,18 @@ fn volume_numbers(img: &[u8], g: Geometry, n: usize) -> Volume
         version: g.version as u32,
         total: g.total,
         reserved: g.reserved as u64,
-        block: g.block_length(),
+        block_length: g.block_length(),
         data: g.data,
         index: g.index,
         stamp: stamps::from_bits(g.stamp),
-        formatted: stamps::from_bits(fields::le64_at(img, at)),
-        name: n as u64,
+        volume_stamp: stamps::from_bits(fields::le64_at(img, at)),
+        name_length: n as u64,
     }
 }
 
 fn open_volume(img: &[u8], g: Geometry, out: &mut [u8]) -> Volume
     requires { ⌜ Opened (now img) g ⌝ }
-    ensures { λ r. ⌜ volumeView (now (img .entry)) (now (out .exit)) r ≡ openOf (now (img .entry)) (now (out .entry)) ⌝ }
+    ensures { λ r. ⌜ OpensVolume (now (img .entry)) (now (out .entry)) r (now (out .exit)) ⌝ }
 {
     let n = super_block::volume_name_len(img);
     if out.len() < n {
@@ -117,7 +78,7 @@ fn open_volume(img: &[u8], g: Geometry, out: &mut [u8]) -> Volume
 }
 
 pub fn open(img: &[u8], out: &mut [u8]) -> Volume
-    ensures { λ r. ⌜ volumeView (now (img .entry)) (now (out .exit)) r ≡ openOf (now (img .entry)) (now (out .entry)) ⌝ }
+    ensures { λ r. ⌜ OpensVolume (now (img .entry)) (now (out .entry)) r (now (out .exit)) ⌝ }
 {
     match judging::judge(img) {
         Judged::Refused(n) => no_volume(n as u32),
@@ -157,7 +118,7 @@ fn entry_numbers(h: Head) -> Entry
 
 fn find_entry(img: &[u8], g: Geometry, path: &[u8]) -> Entry
     requires { ⌜ Opened (now img) g ⌝ }
-    ensures { λ r. ⌜ entryView (now (img .entry)) r ≡ findOf (now (img .entry)) (now (path .entry)) ⌝ }
+    ensures { λ r. ⌜ Finds (now (img .entry)) (now (path .entry)) r ⌝ }
 {
     if !names::path_good(path) {
         return no_entry(10);
@@ -170,7 +131,7 @@ fn find_entry(img: &[u8], g: Geometry, path: &[u8]) -> Entry
 }
 
 pub fn find(img: &[u8], path: &[u8]) -> Entry
-    ensures { λ r. ⌜ entryView (now (img .entry)) r ≡ findOf (now (img .entry)) (now (path .entry)) ⌝ }
+    ensures { λ r. ⌜ Finds (now (img .entry)) (now (path .entry)) r ⌝ }
 {
     match judging::judge(img) {
         Judged::Refused(n) => no_entry(n as u32),
@@ -212,7 +173,7 @@ fn read_file(img: &[u8], g: Geometry, h: Head, out: &mut [u8]) -> Content
 
 fn read_entry(img: &[u8], g: Geometry, path: &[u8], out: &mut [u8]) -> Content
     requires { ⌜ Opened (now img) g ⌝ }
-    ensures { λ r. ⌜ contentView (now (img .entry)) (now (out .exit)) r ≡ readOf (now (img .entry)) (now (path .entry)) (now (out .entry)) ⌝ }
+    ensures { λ r. ⌜ Reads (now (img .entry)) (now (path .entry)) (now (out .entry)) r (now (out .exit)) ⌝ }
 {
     if !names::path_good(path) {
         return no_content(10);
@@ -225,7 +186,7 @@ fn read_entry(img: &[u8], g: Geometry, path: &[u8], out: &mut [u8]) -> Content
 }
 
 pub fn read(img: &[u8], path: &[u8], out: &mut [u8]) -> Content
-    ensures { λ r. ⌜ contentView (now (img .entry)) (now (out .exit)) r ≡ readOf (now (img .entry)) (now (path .entry)) (now (out .entry)) ⌝ }
+    ensures { λ r. ⌜ Reads (now (img .entry)) (now (path .entry)) (now (out .entry)) r (now (out .exit)) ⌝ }
 {
     match judging::judge(img) {
         Judged::Refused(n) => no_content(n as u32),
@@ -246,7 +207,7 @@ fn none_listed(n: u32) -> Listed
         end: 0,
         length: 0,
         stamp: 0,
-        path: 0,
+        path_length: 0,
     }
 }
 
@@ -261,7 +222,7 @@ fn listed_numbers(h: Head, n: usize) -> Listed
         end: h.end.0,
         length: h.length,
         stamp: stamps::from_bits(h.stamp),
-        path: n as u64,
+        path_length: n as u64,
     }
 }
 
@@ -283,7 +244,7 @@ fn list_entry(img: &[u8], h: Head, out: &mut [u8]) -> Listed
 
 fn list_from(img: &[u8], g: Geometry, slot: u64, out: &mut [u8]) -> Listed
     requires { ⌜ Opened (now img) g ⌝ }
-    ensures { λ r. ⌜ listedView (now (img .entry)) (now (out .exit)) r ≡ listOf (now (img .entry)) slot (now (out .entry)) ⌝ }
+    ensures { λ r. ⌜ Lists (now (img .entry)) slot (now (out .entry)) r (now (out .exit)) ⌝ }
 {
     let from = super_block::first_slot(img, g);
     match paths::next_live(img, from, slot) {
@@ -293,7 +254,7 @@ fn list_from(img: &[u8], g: Geometry, slot: u64, out: &mut [u8]) -> Listed
 }
 
 pub fn list(img: &[u8], slot: u64, out: &mut [u8]) -> Listed
-    ensures { λ r. ⌜ listedView (now (img .entry)) (now (out .exit)) r ≡ listOf (now (img .entry)) slot (now (out .entry)) ⌝ }
+    ensures { λ r. ⌜ Lists (now (img .entry)) slot (now (out .entry)) r (now (out .exit)) ⌝ }
 {
     match judging::judge(img) {
         Judged::Refused(n) => none_listed(n as u32),

@@ -154,10 +154,12 @@ Demand3 =
     (told (formatOf s bytesPerBlock reserved name stamp .image) (fed nothing (format bytesPerBlock reserved name stamp)) cs)
 
 -- ---- the claim about two images
--- they agree in the super-block's fields, the index area and the blocks of live files
+-- both open, and they agree in the super-block's fields, the index area and the blocks of live files
 pub record Agree (s t : List ℕ) : Type 0 where
   pub volume : Volume
   pub opens : judge s ≡ accepted volume
+  pub otherVolume : Volume
+  pub otherOpens : judge t ≡ accepted otherVolume
   pub superBlock : part s superBlockAt 42 ≡ part t superBlockAt 42
   pub index : drop (length s - volume .geometry .indexBytes) s ≡ drop (length t - volume .geometry .indexBytes) t
   pub files :
@@ -178,4 +180,4 @@ pub record SameAnswers (s t : List ℕ) : Type 0 where
   pub lists : (slot : ℕ) (out : List ℕ) → SameAnswer (listOf s slot out) (listOf t slot out)
 
 abbrev pub TwoImages : Type 0
-TwoImages = (s t : List ℕ) (v : Volume) → judge t ≡ accepted v → Agree s t → SameAnswers s t
+TwoImages = (s t : List ℕ) → Agree s t → SameAnswers s t

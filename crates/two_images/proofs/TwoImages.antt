@@ -2,7 +2,7 @@
 -- give equal answers to find, read and list. Assumes nothing.
 use Prim.Native.Nat.{ℕ, _*_}
 use mathlib.Core.Path.{_≡_, refl, sym, ap, ap₂, _∙_}
-use mathlib.Core.Bool.{Bool, true, false, _&&_}
+use mathlib.Core.Bool.{Bool, true, false}
 use mathlib.Core.List.{List, []}
 use mathlib.Core.Option.{Option, none, some}
 use lib.ListN.{length}
@@ -25,6 +25,7 @@ use Rattle.rules.specs.Reading.{findOf, readOf, listOf, listed, fileBytes}
 use Rattle.rules.specs.History.{Agree, SameAnswer, TwoImages}
 use Rattle.laws.proofs.Lists.Every.{only-says, first-says, all-first}
 use Rattle.laws.proofs.Entries.Regions.{sound-says, file-region}
+use Rattle.two_images.specs.Unseen.{liveFile}
 use Rattle.two_images.proofs.Seen.{items-same}
 
 -- ---- what two images were told: alike, where the tests are the same and what is left at the end is
@@ -87,23 +88,21 @@ module _ (s t : List ℕ) (v : Volume) (first : judge s ≡ accepted v) (second 
       alike-done 0 s t out (e .length) _ _ (ap (splice out 0) (bytes path e f (eqb-true (e .kind) typeFile k))))))))
 
 -- ---- they open as one volume, and the files that are found have the same bytes
-one-volume : (s t : List ℕ) (v : Volume) → judge t ≡ accepted v → (a : Agree s t) → judge t ≡ accepted (a .volume)
-one-volume s t v second a =
+one-volume : (s t : List ℕ) (a : Agree s t) → judge t ≡ accepted (a .volume)
+one-volume s t a =
+    let v = a .otherVolume in
     let o = judge-opens s (a .volume) (a .opens) in
-    let p = judge-opens t v second in
+    let p = judge-opens t v (a .otherOpens) in
     let g : v .geometry ≡ a .volume .geometry = p .geometry-is ∙ sym (o .geometry-is ∙ geometry-same s t (a .superBlock)) in
     let i : v .items ≡ a .volume .items = p .items-are ∙ ap (itemsOf t) g ∙ sym (o .items-are ∙ items-same s t (a .volume .geometry) (a .index)) in
-    second ∙ ap accepted (ap₂ {C = Volume} (λ h is. record { geometry = h; items = is }) g i)
-
-abbrev pub liveFile : Entry → Bool
-liveFile e = isLive e && fileType (e .kind)
+    a .otherOpens ∙ ap accepted (ap₂ {C = Volume} (λ h is. record { geometry = h; items = is }) g i)
 
 file-live : (e : Entry) → e .kind ≡ typeFile → (isLive e ≡ true) × (fileType (e .kind) ≡ true)
 unfolding isLive liveType fileType
 file-live e k = rw k (refl, refl)
 
-abbrev pub SameBlocks : List ℕ → List ℕ → Geometry → Entry → Type 0
-SameBlocks s t g e = part s (e .start * blockLength g) (blocksOf e * blockLength g) ≡ part t (e .start * blockLength g) (blocksOf e * blockLength g)
+abbrev pub SameFile : List ℕ → List ℕ → Geometry → Entry → Type 0
+SameFile s t g e = part s (e .start * blockLength g) (blocksOf e * blockLength g) ≡ part t (e .start * blockLength g) (blocksOf e * blockLength g)
 
 same-bytes : (s t : List ℕ) (a : Agree s t) (path : List ℕ) (e : Entry) → lookup path (entries (a .volume)) ≡ some e → e .kind ≡ typeFile
     → fileBytes s (a .volume .geometry) e ≡ fileBytes t (a .volume .geometry) e
@@ -114,12 +113,12 @@ same-bytes s t a path e f k =
     let l = file-live e k in
     let at = first-says (liveAt path) es e f in
     let good = all-first _ (liveAt path) es e (sound-says g es (judge-opens s (a .volume) (a .opens) .regions-sound) .each) at in
-    let blocks = all-first _ (liveAt path) es e (only-says (SameBlocks s t g) liveFile es (a .files)) at (and-both _ _ (l .0) (l .1)) in
+    let blocks = all-first _ (liveAt path) es e (only-says (SameFile s t g) liveFile es (a .files)) at (and-both _ _ (l .0) (l .1)) in
     take-same (blocksOf e * blockLength g) _ _ blocks (e .length) (file-region g e (l .1) good .fits)
 
 pub two-images : TwoImages
-two-images s t v o a =
-    let second : judge t ≡ accepted (a .volume) = one-volume s t v o a in
+two-images s t a =
+    let second = one-volume s t a in
     record {
       finds = same-find s t (a .volume) (a .opens) second;
       reads = same-read s t (a .volume) (a .opens) second (same-bytes s t a);

@@ -1,6 +1,6 @@
 use mathlib.Core.Path.{sym, ap, _∙_}
 use Rattle.rules.specs.Outcome.{done}
-use Rattle.rules.specs.Writing.Laws.{writtenAs}
+use Rattle.contracts.specs.Contracts.{writtenAs}
 use Rattle.erasing.specs.Delete.{planned-refused, planned-at}
 use borrow.Author.Needs.{needs}
 use Rattle.erasing.proofs.delete.Statement.{statement}

@@ -1,6 +1,7 @@
 use mathlib.Core.Path.{sym, ap, _∙_}
 use Rattle.rules.specs.Outcome.{done}
-use Rattle.rules.specs.Writing.Laws.{writtenAs, reclaim-refused, reclaim-later}
+use Rattle.rules.specs.Writing.Laws.{reclaim-refused, reclaim-later}
+use Rattle.contracts.specs.Contracts.{writtenAs}
 use Rattle.judging.specs.View.{refused-says, good-says}
 use Rattle.erasing.specs.Reclaim.{reclaim-written}
 use borrow.Author.Needs.{needs}

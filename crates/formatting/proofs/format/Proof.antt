@@ -13,7 +13,8 @@ use Rattle.rules.specs.Names.{volumeNameGood}
 use Rattle.rules.specs.Outcome.{done}
 use Rattle.rules.specs.Refusals.Laws.{length-bounds, volume-name}
 use Rattle.rules.specs.Writing.{freshGeometry, formatted}
-use Rattle.rules.specs.Writing.Laws.{writtenAs, format-length, format-block, format-geometry, format-name, format-done}
+use Rattle.contracts.specs.Contracts.{writtenAs}
+use Rattle.rules.specs.Writing.Laws.{format-length, format-block, format-geometry, format-name, format-done}
 use Rattle.blocks.specs.View.{fieldView}
 use Rattle.formatting.specs.Fresh.{reserved-wide}
 use borrow.Author.Needs.{needs}

@@ -5,7 +5,7 @@ use Rattle.rules.specs.Paths.{lookup}
 use Rattle.rules.specs.Reading.Laws.{find-name, find-none, find-done}
 use Rattle.paths.specs.View.{searched-nothing, searched-entry}
 use Rattle.judging.specs.View.{opened-super, opened-walks, opened-entries}
-use Rattle.reading.specs.View.{entry-outcome}
+use Rattle.contracts.specs.Contracts.Laws.{entry-outcome}
 use borrow.Author.Needs.{needs}
 use Rattle.reading.proofs.find_entry.Statement.{statement}
 use Rattle.reading.proofs.find_entry.Tie as tie

@@ -8,7 +8,8 @@ use Rattle.rules.specs.Lists.{part}
 use Rattle.rules.specs.Lists.Laws.{length-part}
 use Rattle.index.specs.View.{headView}
 use Rattle.paths.specs.Entries.{lent-name}
-use Rattle.reading.specs.Found.{path-short, path-done, listed-outcome}
+use Rattle.contracts.specs.Contracts.Laws.{listed-outcome}
+use Rattle.reading.specs.Found.{path-short, path-done}
 use borrow.Author.Needs.{needs}
 use Rattle.reading.proofs.list_entry.Statement.{statement}
 use Rattle.reading.proofs.list_entry.Tie as tie

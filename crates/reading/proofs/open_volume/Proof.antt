@@ -10,7 +10,7 @@ use Rattle.rules.specs.Index.{volumeName}
 use Rattle.rules.specs.Reading.Laws.{open-short, open-done}
 use Rattle.super_block.specs.Ends.{name-part}
 use Rattle.judging.specs.View.{opened-super, opened-long}
-use Rattle.reading.specs.View.{volume-outcome}
+use Rattle.contracts.specs.Contracts.Laws.{volume-outcome}
 use borrow.Author.Needs.{needs}
 use Rattle.reading.proofs.open_volume.Statement.{statement}
 use Rattle.reading.proofs.open_volume.Tie as tie

@@ -1,7 +1,7 @@
 use mir.Syntax.{w64}
 use mir.ValLaws.{toZ-ofZ}
 use denote.Ref.{now}
-use Rattle.reading.specs.View.{volume-stamp}
+use Rattle.reading.specs.Stamp.{volume-stamp}
 use Rattle.rules.specs.Reading.{volumeNumbers}
 use mathlib.Core.Path.{refl}
 use borrow.Author.Needs.{needs}

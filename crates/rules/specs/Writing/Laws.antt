@@ -20,10 +20,6 @@ use Rattle.rules.specs.Outcome.{Outcome, done}
 use Rattle.rules.specs.Outcome.Laws.{denied, conclude-refused, conclude-accepted, volume-refused, volume-denied, volume-done}
 use Rattle.rules.specs.Writing.{Written, New, kindOf, bytesOf, formatOf, freshGeometry, formatted, createOf, nearestLive, Place, placeRun, placeFile, newEntry, created, deleteOf, deleted, reclaimOf, leastEnd, cleared}
 
--- what a program's number and the image that it leaves come to
-abbrev pub writtenAs : ℕ → List ℕ → Written
-writtenAs n t = record { refusal = n; answer = tt; image = t; output = [] }
-
 abbrev pub refusedWrite : List ℕ → ℕ → Written
 refusedWrite s n = denied tt s [] n
 

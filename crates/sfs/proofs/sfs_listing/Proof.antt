@@ -3,10 +3,10 @@ use Prim.Native.Nat.{ℕ}
 use lib.ListN.{length}
 use denote.Ref.{now}
 use Rattle.rules.specs.Listing.{listingOf}
-use Rattle.sfs.specs.Text.{text}
+use Rattle.contracts.specs.Contracts.{text}
 use mathlib.Core.Path.{sym, ap, _∙_}
 use native.Mathlib.Nat.{zero-add}
-use Rattle.sfs.specs.Text.{text-short, text-done}
+use Rattle.contracts.specs.Contracts.Laws.{text-short, text-done}
 use borrow.Author.Needs.{needs}
 use Rattle.sfs.proofs.sfs_listing.Statement.{statement}
 use Rattle.sfs.proofs.sfs_listing.Tie as tie

@@ -1,0 +1,112 @@
+-- WHAT EACH EXPORTED CALL PROMISES: a relation between the image s, the arguments, the answer r and the bytes left behind, for every image and
+-- every argument. A call that writes leaves the image t; one that reads leaves s, and its lent output as `after`.
+use Prim.Native.Nat.{ℕ}
+use mathlib.Core.Path.{_≡_}
+use mathlib.Core.List.{List, []}
+use lib.ListN.{length}
+use lib.Dec.{leb}
+use lib.IntN.{ℤ}
+use Rattle.rules.specs.Lists.{pick}
+use Rattle.rules.specs.Fields.{splice}
+use Rattle.rules.specs.Outcome.{Outcome, VolumeNumbers, EntryNumbers, ListedNumbers}
+use Rattle.rules.specs.Reading.{openOf, findOf, listOf, readOf}
+use Rattle.rules.specs.Writing.{Written, New, newFile, newDirectory, formatOf, createOf, deleteOf, reclaimOf}
+use Rattle.rules.specs.Listing.{listingOf}
+use Rattle.contracts.specs.declared.Volume.{Volume}
+use Rattle.contracts.specs.declared.Entry.{Entry}
+use Rattle.contracts.specs.declared.Listed.{Listed}
+use Rattle.contracts.specs.declared.Content.{Content}
+pub mod Laws
+
+-- ---- the answers in the rules' words
+abbrev pub volumeAnswer : Volume → VolumeNumbers
+volumeAnswer r = record {
+  version = r .version;
+  total = r .total;
+  reserved = r .reserved;
+  blockLength = r .«block_length»;
+  dataBlocks = r .«data»;
+  indexBytes = r .index;
+  stamp = r .stamp;
+  volumeStamp = r .«volume_stamp»;
+  nameLength = r .«name_length»;
+}
+
+abbrev pub volumeView : List ℕ → List ℕ → Volume → Outcome VolumeNumbers
+volumeView s after r = record { refusal = r .refusal; answer = volumeAnswer r; image = s; output = after }
+
+abbrev pub entryAnswer : Entry → EntryNumbers
+entryAnswer r = record { slot = r .slot; kind = r .kind; start = r .start; end = r .end; length = r .length; stamp = r .stamp }
+
+abbrev pub entryView : List ℕ → Entry → Outcome EntryNumbers
+entryView s r = record { refusal = r .refusal; answer = entryAnswer r; image = s; output = [] }
+
+abbrev pub listedAnswer : Listed → ListedNumbers
+listedAnswer r = record {
+  found = record { slot = r .slot; kind = r .kind; start = r .start; end = r .end; length = r .length; stamp = r .stamp };
+  pathLength = r .«path_length»;
+}
+
+abbrev pub listedView : List ℕ → List ℕ → Listed → Outcome ListedNumbers
+listedView s after r = record { refusal = r .refusal; answer = listedAnswer r; image = s; output = after }
+
+abbrev pub contentView : List ℕ → List ℕ → Content → Outcome ℕ
+contentView s after r = record { refusal = r .refusal; answer = r .length; image = s; output = after }
+
+-- a call that writes answers its refusal alone
+abbrev pub writtenAs : ℕ → List ℕ → Written
+writtenAs r t = record { refusal = r; answer = tt; image = t; output = [] }
+
+-- the listing's length, and the output that holds it
+pub record Text : Type 0 where
+  pub length : ℕ
+  pub output : List ℕ
+
+abbrev pub text : ℕ → List ℕ → Text
+text n after = record { length = n; output = after }
+
+-- nothing where the output is shorter than any text may need
+unfoldable pub textOf : List ℕ → List ℕ → Text
+textOf s out = pick (leb 131_072 (length out)) (text (length (listingOf s)) (splice out 0 (listingOf s))) (text 0 out)
+
+-- ---- sfs_format: a fresh volume in place of whatever the image held
+abbrev pub Formats : List ℕ → ℕ → ℕ → List ℕ → ℤ → ℕ → List ℕ → Type 0
+Formats s bytesPerBlock reserved name stamp r t = writtenAs r t ≡ formatOf s bytesPerBlock reserved name stamp
+
+-- ---- sfs_open: the volume's numbers, and its name in the output
+abbrev pub OpensVolume : List ℕ → List ℕ → Volume → List ℕ → Type 0
+OpensVolume s out r after = volumeView s after r ≡ openOf s out
+
+-- ---- sfs_find: the numbers of the path's live entry
+abbrev pub Finds : List ℕ → List ℕ → Entry → Type 0
+Finds s path r = entryView s r ≡ findOf s path
+
+-- ---- sfs_list: the numbers of the next live entry from a slot on, and its path in the output
+abbrev pub Lists : List ℕ → ℕ → List ℕ → Listed → List ℕ → Type 0
+Lists s slot out r after = listedView s after r ≡ listOf s slot out
+
+-- ---- sfs_read: the length of the path's file, and its bytes in the output
+abbrev pub Reads : List ℕ → List ℕ → List ℕ → Content → List ℕ → Type 0
+Reads s path out r after = contentView s after r ≡ readOf s path out
+
+-- ---- sfs_create_file and sfs_create_directory: a new live entry, and a file's bytes in its blocks
+abbrev pub Creates : List ℕ → New → List ℕ → ℤ → ℕ → List ℕ → Type 0
+Creates s new path stamp r t = writtenAs r t ≡ createOf s new path stamp
+
+abbrev pub CreatesFile : List ℕ → List ℕ → List ℕ → ℤ → ℕ → List ℕ → Type 0
+CreatesFile s path bytes stamp r t = Creates s (newFile bytes) path stamp r t
+
+abbrev pub CreatesDirectory : List ℕ → List ℕ → ℤ → ℕ → List ℕ → Type 0
+CreatesDirectory s path stamp r t = Creates s newDirectory path stamp r t
+
+-- ---- sfs_delete: the path's live entry is marked deleted
+abbrev pub Deletes : List ℕ → List ℕ → ℤ → ℕ → List ℕ → Type 0
+Deletes s path stamp r t = writtenAs r t ≡ deleteOf s path stamp
+
+-- ---- sfs_reclaim: what deleted entries hold is free
+abbrev pub Reclaims : List ℕ → ℤ → ℕ → List ℕ → Type 0
+Reclaims s stamp r t = writtenAs r t ≡ reclaimOf s stamp
+
+-- ---- sfs_listing: the listing program's text, in an output that any text fits
+abbrev pub WritesListing : List ℕ → List ℕ → ℕ → List ℕ → Type 0
+WritesListing s out r after = text r after ≡ textOf s out
