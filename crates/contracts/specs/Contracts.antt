@@ -62,12 +62,12 @@ pub record Text : Type 0 where
   pub length : ℕ
   pub output : List ℕ
 
-abbrev pub text : ℕ → List ℕ → Text
-text n after = record { length = n; output = after }
+abbrev pub textAs : ℕ → List ℕ → Text
+textAs n after = record { length = n; output = after }
 
 -- nothing where the output is shorter than any text may need
 unfoldable pub textOf : List ℕ → List ℕ → Text
-textOf s out = pick (leb 131_072 (length out)) (text (length (listingOf s)) (splice out 0 (listingOf s))) (text 0 out)
+textOf s out = pick (leb 131_072 (length out)) (textAs (length (listingOf s)) (splice out 0 (listingOf s))) (textAs 0 out)
 
 -- ---- sfs_format: a fresh volume in place of whatever the image held
 abbrev pub Formats : List ℕ → ℕ → ℕ → List ℕ → ℤ → ℕ → List ℕ → Type 0
@@ -109,4 +109,4 @@ Reclaims s stamp r t = writtenAs r t ≡ reclaimOf s stamp
 
 -- ---- sfs_listing: the listing program's text, in an output that any text fits
 abbrev pub WritesListing : List ℕ → List ℕ → ℕ → List ℕ → Type 0
-WritesListing s out r after = text r after ≡ textOf s out
+WritesListing s out r after = textAs r after ≡ textOf s out

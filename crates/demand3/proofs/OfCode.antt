@@ -15,7 +15,7 @@ use Rattle.rules.specs.Writing.{formatOf}
 use Rattle.rules.specs.Text.{text}
 use Rattle.rules.specs.Listing.{listingOf, volumeText, linesOf, countLine}
 use Rattle.rules.specs.History.{Call, format, openVolume, find, list, read, create, delete, reclaim, Passed, passed, step, Kept, History, nothing, fed, feed, run, told, nameOfEntry, nameOfKept, Holds, ReadsBack}
-use Rattle.contracts.specs.Contracts.{Reads, WritesListing, text}
+use Rattle.contracts.specs.Contracts.{Reads, WritesListing, textAs}
 use Rattle.contracts.specs.Contracts.Laws.{text-done}
 use Rattle.contracts.specs.declared.Content.{Content}
 use Rattle.laws.proofs.Lists.Every.{all-weaken}
@@ -74,7 +74,7 @@ listing-is u v opens short = rw (le-leb (length u) 65_536 short, opens)
 pub listing-counts : (u : List ℕ) (h : History) → Holds u h → (out : List ℕ) (r : ℕ) (after : List ℕ) → WritesListing u out r after
     → ListingCounts h u out r after
 listing-counts u h holds out r after e short room =
-    let f : text r after ≡ text (length (listingOf u)) (splice out 0 (listingOf u)) = e ∙ text-done u out room in
+    let f : textAs r after ≡ textAs (length (listingOf u)) (splice out 0 (listingOf u)) = e ∙ text-done u out room in
     let es = entries (holds .volume) in (
       listingOf u,
       ap (λ x. x .length) f,

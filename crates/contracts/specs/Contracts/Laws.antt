@@ -11,7 +11,7 @@ use Rattle.rules.specs.Listing.{listingOf}
 use Rattle.contracts.specs.declared.Volume.{Volume}
 use Rattle.contracts.specs.declared.Entry.{Entry}
 use Rattle.contracts.specs.declared.Listed.{Listed}
-use Rattle.contracts.specs.Contracts.{volumeAnswer, volumeView, entryAnswer, entryView, listedAnswer, listedView, text, textOf}
+use Rattle.contracts.specs.Contracts.{volumeAnswer, volumeView, entryAnswer, entryView, listedAnswer, listedView, textAs, textOf}
 
 pub volume-outcome : (s out : List ℕ) (r : Volume) (a : VolumeNumbers) → r .refusal ≡ 0 → volumeAnswer r ≡ a → volumeView s out r ≡ done a s out
 unfolding done
@@ -25,10 +25,10 @@ pub listed-outcome : (s out : List ℕ) (r : Listed) (a : ListedNumbers) → r .
 unfolding done
 listed-outcome s out r a z e = rw (z, e)
 
-pub text-short : (s out : List ℕ) → length out < 131_072 → textOf s out ≡ text 0 out
+pub text-short : (s out : List ℕ) → length out < 131_072 → textOf s out ≡ textAs 0 out
 unfolding textOf
 text-short s out h = pick-false _ _ (lt-leb 131_072 (length out) h)
 
-pub text-done : (s out : List ℕ) → 131_072 ≤ length out → textOf s out ≡ text (length (listingOf s)) (splice out 0 (listingOf s))
+pub text-done : (s out : List ℕ) → 131_072 ≤ length out → textOf s out ≡ textAs (length (listingOf s)) (splice out 0 (listingOf s))
 unfolding textOf
 text-done s out h = pick-true _ _ (le-leb 131_072 (length out) h)
