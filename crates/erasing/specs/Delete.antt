@@ -9,7 +9,7 @@ use lib.ListN.{length, drop}
 use lib.IntN.{ℤ}
 use Rattle.rules.specs.Lists.Laws.{pick-true, pick-false}
 use Rattle.rules.specs.Fields.{splice, signedOf, stampBytes, leBytes}
-use Rattle.rules.specs.SuperBlock.{Geometry, version10}
+use Rattle.rules.specs.SuperBlock.{Geometry, writable}
 use Rattle.rules.specs.SuperBlock.Laws.{GoodGeometry}
 use Rattle.rules.specs.Names.{pathGood}
 use Rattle.rules.specs.Index.{Entry, entry, fileType, itemsOf, entriesOf, innerSlots, slotAt, stampAt, typeDeletedFile, typeDeletedDirectory, identifierAt}
@@ -79,7 +79,7 @@ module _ (s path : List ℕ) (g : Held) (opened : Opened s g) (e : Entry) (found
   unfolding slotAt
   entry-within = slot-within s (geometryView g) (opened-super s g opened .good) path e found
 
-  pub entry-planned : g .version ≤ version10 → pathGood path ≡ true → anyBelow path (entries (volumeOf s (geometryView g))) ≡ false
+  pub entry-planned : writable (geometryView g) ≡ true → pathGood path ≡ true → anyBelow path (entries (volumeOf s (geometryView g))) ≡ false
       → (at : ℕ) → at ≡ length s - g .index + 64 * e .slot → (z : ℤ) → deleteOf s path z ≡ wrote (markedAt s at (e .kind) z)
   unfolding markedAt deleted slotAt
   entry-planned v p b at i z = delete-done s (volumeOf s (geometryView g)) opened v path z p e found b ∙ rw i

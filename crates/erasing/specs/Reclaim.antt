@@ -12,7 +12,7 @@ use Rattle.rules.specs.Lists.{pick, padded}
 use Rattle.rules.specs.Lists.Laws.{length-padded}
 use Rattle.rules.specs.Fields.{splice}
 use Rattle.rules.specs.Fields.Laws.{length-splice, splice-nil}
-use Rattle.rules.specs.SuperBlock.{Geometry, version10, trimData, withData, restamp, putSizes, sizesBytes, superBlockAt}
+use Rattle.rules.specs.SuperBlock.{Geometry, writable, trimData, withData, restamp, putSizes, sizesBytes, superBlockAt}
 use Rattle.rules.specs.SuperBlock.Laws.{GoodGeometry, length-sizes}
 use Rattle.rules.specs.Index.{Entry, typeUnused, deletedType, slotAt, unusedBytes, itemsOf, entriesOf}
 use Rattle.rules.specs.Index.Walk.{walkAll, pick-both}
@@ -140,7 +140,7 @@ leastSizes s g z = restamp g (trimData g (leastEnd (entriesOf (itemsOf s g)))) z
 unfoldable pub reclaimed : List ℕ → Geometry → ℤ → List ℕ
 reclaimed s g z = cleared (putSizes s (leastSizes s g z)) (leastSizes s g z) (entriesOf (itemsOf s g))
 
-pub reclaim-written : (s : List ℕ) (g : Geometry) → judge s ≡ accepted (volumeOf s g) → g .version ≤ version10 → (z : ℤ) → reclaimOf s z ≡ wrote (reclaimed s g z)
+pub reclaim-written : (s : List ℕ) (g : Geometry) → judge s ≡ accepted (volumeOf s g) → writable g ≡ true → (z : ℤ) → reclaimOf s z ≡ wrote (reclaimed s g z)
 unfolding reclaimed
 reclaim-written s g o c z = reclaim-done s (volumeOf s g) o c z
 

@@ -22,9 +22,6 @@ ghost use Rattle.judging.specs.View.{Opened};
 ghost use Rattle.erasing.specs.Delete.{markedAt, Planned};
 ghost use Rattle.erasing.specs.Reclaim.{headCleared, reclaimed};
 
-// The last version that may be written.
-const VERSION: u8 = 0x10;
-
 // The place of an entry's stamp in its first slot.
 const STAMP: usize = 2;
 
@@ -52,7 +49,7 @@ fn plan_entry(img: &[u8], g: Geometry, path: &[u8]) -> Doom
     requires { ⌜ Opened (now img) g ⌝ }
     ensures { λ r. ⌜ Planned (now (img .entry)) (now (path .entry)) r ⌝ }
 {
-    if VERSION < g.version {
+    if !g.is_writable() {
         return Doom::Refused(9);
     }
     if !names::path_good(path) {
@@ -173,7 +170,7 @@ pub fn reclaim(img: &mut [u8], stamp: u64) -> u32
     match judging::judge(img) {
         Judged::Refused(n) => n as u32,
         Judged::Good(g) => {
-            if VERSION < g.version {
+            if !g.is_writable() {
                 return 9;
             }
             write_reclaimed(img, g, stamp);

@@ -8,7 +8,7 @@ use lib.Dec.{eqb, leb}
 use lib.IntN.{ℤ}
 use Rattle.rules.specs.Lists.{pick, only, firstIf, padded, largest}
 use Rattle.rules.specs.Fields.{splice, stampBytes}
-use Rattle.rules.specs.SuperBlock.{Geometry, blockBytes, blockLength, ceilingBlock, dataEnd, fieldOf, geometryGood, lengthGood, growIndex, extendData, trimData, restamp, superBlockBytes, superBlockAt, putSizes, version10}
+use Rattle.rules.specs.SuperBlock.{Geometry, blockBytes, blockLength, ceilingBlock, dataEnd, fieldOf, geometryGood, lengthGood, growIndex, extendData, trimData, restamp, superBlockBytes, superBlockAt, putSizes, version10, writable}
 use Rattle.rules.specs.Names.{pathGood, newPathGood, volumeNameGood, leading}
 use Rattle.rules.specs.Index.{Entry, Item, unused, entry, fault, fileType, deletedType, typeFile, typeDirectory, typeDeletedFile, typeDeletedDirectory, slotBytes, stampAt, slotAt, markerBytes, identifierBytes, unusedBytes, continuing, runBytes}
 use Rattle.rules.specs.Regions.{lowestFree, blocksNeeded}
@@ -22,7 +22,7 @@ abbrev pub Written : Type 0
 Written = Outcome (Unit {0})
 
 abbrev pub onWritable : List ℕ → (Volume → Verdict Written) → Written
-onWritable s call = onVolume tt s [] (λ v. need (leb (v .geometry .version) version10) 9 (call v))
+onWritable s call = onVolume tt s [] (λ v. need (writable (v .geometry)) 9 (call v))
 
 -- ---- format
 -- the geometry that results; b follows from the bytes per block
