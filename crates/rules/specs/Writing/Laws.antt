@@ -16,7 +16,7 @@ use Rattle.rules.specs.Refusals.{Verdict, refused, accepted, Volume, ent
 use Rattle.rules.specs.Refusals.Laws.{need-true, need-false, found-none, found-some}
 use Rattle.rules.specs.Outcome.{Outcome, done}
 use Rattle.rules.specs.Outcome.Laws.{denied, conclude-refused, conclude-accepted, volume-refused, volume-denied, volume-done}
-use Rattle.rules.specs.Writing.{Written, New, kindOf, bytesOf, formatOf, freshGeometry, formatted, createOf, nearestLive, Place, placeRun, placeFile, newEntry, created, deleteOf, deleted, reclaimOf, leastEnd, cleared}
+use Rattle.rules.specs.Writing.{Written, New, kindOf, bytesOf, formatOf, freshGeometry, formatted, createOf, nearestLive, Place, placeRun, placeFile, newEntry, created, deleteOf, deleted, reclaimOf, isDeleted, undeleted, leastEnd, cleared}
 
 -- what a program's number and the image that it leaves come to
 abbrev pub writtenAs : ℕ → List ℕ → Written
@@ -147,7 +147,7 @@ module _ (s : List ℕ) (v : Volume) (opens : judge s ≡ accepted v) where
           delete-done b = volume-done tt s [] _ v _ opens (need-true 9 _ may ∙ need-true 10 _ p ∙ found-some 11 _ f ∙ need-true 14 _ (rw b))
 
     pub reclaim-done : (stamp : ℤ)
-        → let g : Geometry = restamp (v .geometry) (trimData (v .geometry) (leastEnd (entries v))) stamp in
-        reclaimOf s stamp ≡ wrote (cleared (putSizes s g) g (entries v))
+        → let g : Geometry = restamp (v .geometry) (trimData (v .geometry) (leastEnd (undeleted (entries v)))) stamp in
+        reclaimOf s stamp ≡ wrote (cleared isDeleted (putSizes s g) g (entries v))
     unfolding reclaimOf
     reclaim-done stamp = volume-done tt s [] _ v _ opens (need-true 9 _ may)
