@@ -64,7 +64,7 @@ unfoldable pub bytesOf : New → List ℕ
 bytesOf (newFile bytes) = bytes
 bytesOf newDirectory = []
 
--- its directory, if any, is live: the longest of the leading paths
+-- its directory, if any, is live: of the leading paths the longest, for a/b/c of a and a/b the latter
 unfoldable pub nearestLive : List Entry → List (List ℕ) → Bool
 nearestLive es [] = true
 nearestLive es (p ∷ []) = directoryLive es p

@@ -7,7 +7,7 @@ use lib.ListN.{drop}
 use Rattle.rules.specs.Lists.{All}
 use Rattle.rules.specs.Lists.Laws.{pick-false}
 use Rattle.rules.specs.SuperBlock.{Geometry}
-use Rattle.rules.specs.Index.{Entry, Item, unused, entry, fault, fileType, fileField, entryAt, unusableAt, runAt, itemAt, followed, walk, slotBytes, entriesOf, itemsOf}
+use Rattle.rules.specs.Index.{Entry, Item, unused, entry, fault, fileType, fileField, entryAt, unusableAt, runAt, itemAt, followed, walk, walkAll, slotBytes, entriesOf, itemsOf}
 use Rattle.rules.specs.Index.Walk.{pick-both}
 
 module _ (P : Entry → Type 0) (runs : (k : ℕ) (a : List ℕ) → P (entryAt k a)) (unusables : (k : ℕ) (a : List ℕ) → P (unusableAt k a)) where
@@ -36,7 +36,7 @@ module _ (P : Entry → Type 0) (runs : (k : ℕ) (a : List ℕ) → P (entryAt 
       of-followed (itemAt (suc left) k a) _ (of-item (suc left) k a) (λ n. of-walk steps (suc left - n) (k + n) (drop (slotBytes * n) a))
 
   pub of-items : (s : List ℕ) (g : Geometry) → All P (entriesOf (itemsOf s g))
-  unfolding itemsOf
+  unfolding itemsOf walkAll
   of-items s g = of-walk _ _ 1 _
 
 -- only a file has bytes

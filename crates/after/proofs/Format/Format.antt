@@ -12,7 +12,7 @@ use Rattle.rules.specs.SuperBlock.{Geometry, lengthGood, geometryGood, fieldOf,
 use Rattle.rules.specs.SuperBlock.Laws.{GoodGeometry, geometry-good, length-least, asStored, stored-block, stored-index, field-is}
 use Rattle.rules.specs.Names.{volumeNameGood}
 use Rattle.rules.specs.Names.Laws.{volume-name}
-use Rattle.rules.specs.Index.{itemsOf, innerSlots, walk, entriesOf, slotBytes}
+use Rattle.rules.specs.Index.{itemsOf, innerSlots, walk, walkAll, entriesOf, slotBytes}
 use Rattle.rules.specs.Regions.{regionsSound}
 use Rattle.rules.specs.Paths.{pathsSound}
 use Rattle.rules.specs.Refusals.{Volume}
@@ -56,7 +56,7 @@ unfolding freshGeometry
 fresh-index n b reserved stamp = refl
 
 no-items : (t : List ℕ) (g : Geometry) → g .indexBytes ≡ 128 → itemsOf t g ≡ []
-unfolding itemsOf innerSlots walk
+unfolding itemsOf innerSlots walkAll walk
 no-items t g i = let z : g .indexBytes / slotBytes - 2 ≡ 0 = omega arith in rw z
 
 no-regions : (g : Geometry) → regionsSound g (entriesOf []) ≡ true

@@ -9,8 +9,8 @@ use lib.IntN.{ℤ}
 use lib.Pow.{pow-pos}
 use Rattle.rules.specs.SuperBlock.{Geometry, blockBytes, blockLength, ceilingBlock, dataEnd}
 use Rattle.rules.specs.Index.{Entry}
-use Rattle.rules.specs.Regions.{blocksNeeded}
-use Rattle.rules.specs.Regions.Laws.{Told, lowest-is, needed-covers, needed-none}
+use Rattle.rules.specs.Regions.{LowestRun, blocksNeeded}
+use Rattle.rules.specs.Regions.Laws.{lowest-is, needed-covers, needed-none}
 use Rattle.rules.specs.Writing.{New, newFile, newDirectory, kindOf, bytesOf, placeFile, newEntry}
 use Rattle.laws.proofs.Entries.Regions.{Fresh, directory, empty, run}
 
@@ -23,12 +23,12 @@ place-none : (n : ℕ) (g : Geometry) (es : List Entry) (start : ℕ) → placeF
 unfolding placeFile
 place-none n g es start p = sym cc
 
-place-run : (n : ℕ) (g : Geometry) (es : List Entry) (k start : ℕ) → placeFile n g es (suc k) ≡ some start → Told es (suc k) (g .reserved) (ceilingBlock n g) (some start)
+place-run : (n : ℕ) (g : Geometry) (es : List Entry) (k start : ℕ) → placeFile n g es (suc k) ≡ some start → LowestRun es (suc k) (g .reserved) (ceilingBlock n g) (some start)
 unfolding placeFile
 place-run n g es k start p = lowest-is es (suc k) (g .reserved) (ceilingBlock n g) (some start) p
 
 pub place-fits : (n : ℕ) (g : Geometry) (es : List Entry) (blocks start : ℕ) → placeFile n g es blocks ≡ some start → start + blocks ≤ ceilingBlock n g
-unfolding Told
+unfolding LowestRun
 place-fits n g es zero start p = omega (arith, place-none n g es start p)
 place-fits n g es (suc k) start p = place-run n g es k start p .1
 
@@ -36,7 +36,7 @@ place-fits n g es (suc k) start p = place-run n g es k start p .1
 pub new-fresh : (n : ℕ) (g h : Geometry) (es : List Entry) (new : New) (path : List ℕ) (stamp : ℤ) (slot start blocks : ℕ)
     → blocks ≡ blocksNeeded (blockLength h) (length (bytesOf new)) → placeFile n g es blocks ≡ some start → h .reserved ≡ g .reserved → start + blocks ≤ dataEnd h
     → Fresh h es (newEntry new path stamp slot start blocks)
-unfolding Told newEntry kindOf bytesOf
+unfolding LowestRun newEntry kindOf bytesOf
 new-fresh n g h es (newFile bytes) path stamp slot start zero b p r f =
     let l : length bytes ≤ 0 * blockLength h = rw (← b) at (needed-covers (blockLength h) (length bytes) (block-pos h)) in
     let z : start ≡ 0 = place-none n g es start p in

@@ -10,7 +10,7 @@ use Rattle.rules.specs.Lists.{All}
 use Rattle.rules.specs.Lists.Laws.{clash, pick-false, and-true}
 use Rattle.rules.specs.Fields.{le}
 use Rattle.rules.specs.SuperBlock.{Geometry}
-use Rattle.rules.specs.Index.{Entry, Item, unused, entry, fault, fileField, startAt, endAt, entryAt, unusableAt, runSlots, nameField, nameGood, runAt, itemAt, followed, walk, slotBytes, entriesOf, itemsOf}
+use Rattle.rules.specs.Index.{Entry, Item, unused, entry, fault, fileField, startAt, endAt, entryAt, unusableAt, runSlots, nameField, nameGood, runAt, itemAt, followed, walk, walkAll, slotBytes, entriesOf, itemsOf}
 use Rattle.rules.specs.Index.Walk.{pick-both}
 use Rattle.laws.proofs.Lists.Every.{pick-by}
 use Rattle.laws.proofs.Entries.Regions.{Settled}
@@ -44,7 +44,7 @@ module _ (P : Entry → Type 0) (run : (k : ℕ) (a : List ℕ) → nameGood (na
       (λ n. of-walk steps (suc left - n) (k + n) (drop (slotBytes * n) a))
 
   pub all-entries : (s : List ℕ) (g : Geometry) → All P (entriesOf (itemsOf s g))
-  unfolding itemsOf
+  unfolding itemsOf walkAll
   all-entries s g = of-walk _ _ 1 _
 
 settled-run : (k : ℕ) (a : List ℕ) → Settled (entryAt k a)

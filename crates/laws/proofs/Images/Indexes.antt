@@ -51,7 +51,7 @@ module _ (P : Entry → Type 0) (run : (k : ℕ) (a : List ℕ) → P (entryAt k
       of-followed (itemAt (suc left) k a) _ (of-item (suc left) k a) (λ n. of-walk steps (suc left - n) (k + n) (drop (slotBytes * n) a))
 
   pub every-entry : (s : List ℕ) (g : Geometry) → All P (entriesOf (itemsOf s g))
-  unfolding itemsOf
+  unfolding itemsOf walkAll
   every-entry s g = of-walk _ _ 1 _
 
 bare-run : (k : ℕ) (a : List ℕ) → Bare (entryAt k a)

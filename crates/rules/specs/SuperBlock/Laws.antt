@@ -10,14 +10,15 @@ use lib.Pow.{pow-mono, pow-pos}
 use lib.ListN.{length, take, length-append}
 use lib.Seq.{take-all}
 use lib.Dec.{eqb}
-use lib.IntN.{ℤ}
+use lib.IntN.{ℤ, pos, negsuc}
 use lib.Signed.{mag}
 use borrow.Author.Tests.{le-leb, leb-true, eq-eqb, eqb-true}
 use Rattle.rules.specs.Lists.{pick, part}
 use Rattle.rules.specs.Lists.Laws.{pick-true, pick-false, and-true, part-part, part-append}
 use Rattle.rules.specs.Fields.{byteAt, le, leBytes, splice, stampIn, stampBytes, signedOf, bitsOf, checksumOf, checks}
 use Rattle.rules.specs.Fields.Laws.{le-1, length-leBytes, le-leBytes, length-splice, byte-le, le-part, le-append-before, le-append-after, le-between, part-splice-before, part-splice-after, part-splice-from, checks-sealed}
-use Rattle.rules.specs.Fields.Signed.{bitsOf-lt, signed-bits}
+use Rattle.rules.specs.Fields.Signed.{bitsOf-lt, signedOf-mag, signed-bits, bits-signed}
+use Rattle.rules.specs.Dates.{floorMod}
 use Rattle.rules.specs.Index.Walk.{pick-both}
 use Rattle.rules.specs.SuperBlock.{Geometry, geometryOf, blockBytes, blockLength, ceilingBlock, dataEnd, indexGood, geometryGood, fieldOf, growIndex, withIndex, withData, extendData, trimData, withStamp, restamp, sizesBytes, summedBytes, superBlockBytes, putSizes, superBlockAt, magic, magicAt, versionAt, blockFieldAt, sealedLength}
 
@@ -140,12 +141,27 @@ unfolding superBlockBytes
 length-super g = simp (length-append, length-sizes, length-summed)
 
 -- ---- a stamp as it is stored
+bits-modulo : (z : ℤ) → bitsOf z ≡ floorMod z (2 ^ 64)
+unfolding bitsOf floorMod
+bits-modulo (pos n) = refl
+bits-modulo (negsuc n) = refl
+
 unfoldable pub storedStamp : ℤ → ℤ
 storedStamp z = stampIn (stampBytes z) 0
 
-pub stored-stamp : (z : ℤ) → mag z < 2 ^ 63 → storedStamp z ≡ z
+stored-bits : (z : ℤ) → storedStamp z ≡ signedOf (bitsOf z)
 unfolding storedStamp stampIn stampBytes
-stored-stamp z h = ap signedOf (le-leBytes 8 (bitsOf z) (bitsOf-lt z h)) ∙ signed-bits z h
+stored-bits z = ap signedOf (le-leBytes 8 (bitsOf z) (bitsOf-lt z))
+
+-- a number of 64 bits is read as it was written
+pub stored-stamp : (z : ℤ) → mag z < 2 ^ 63 → storedStamp z ≡ z
+stored-stamp z h = stored-bits z ∙ signed-bits z h
+
+-- and any other as the number of 64 bits that is the same modulo 2 ^ 64
+pub stored-modulo : (z : ℤ) → (mag (storedStamp z) < 2 ^ 63) × (floorMod (storedStamp z) (2 ^ 64) ≡ floorMod z (2 ^ 64))
+stored-modulo z =
+    rw (stored-bits z)
+    (signedOf-mag (bitsOf z) (bitsOf-lt z), sym (bits-modulo (signedOf (bitsOf z))) ∙ bits-signed (bitsOf z) (bitsOf-lt z) ∙ bits-modulo z)
 
 -- the geometry that is read of one that was written
 unfoldable pub asStored : Geometry → Geometry
