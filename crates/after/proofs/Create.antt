@@ -1,6 +1,5 @@
 -- What an accepted create leaves.
 pub mod Inverted
-pub mod Sizes
 pub mod Images
 pub mod Added
 pub mod Made

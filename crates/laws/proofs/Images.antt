@@ -4,3 +4,4 @@ pub mod Areas
 pub mod Inner
 pub mod Indexes
 pub mod Sizes
+pub mod Placing

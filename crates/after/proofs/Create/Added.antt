@@ -29,8 +29,7 @@ use Rattle.laws.proofs.Index.Unused.{unusedFrom, unusedFrom-slots, unusedFrom-e
 use Rattle.laws.proofs.Index.Shift.{shiftItem, shiftEntry, entriesOf-shift, noFault-shift}
 use Rattle.laws.proofs.Index.Runs.{Storable, stored}
 use Rattle.laws.proofs.Index.Writes.{walk-created, walk-grown}
-use Rattle.after.proofs.Create.Inverted.{Placed}
-use Rattle.after.proofs.Create.Sizes.{grown-index}
+use Rattle.laws.proofs.Images.Placing.{unused-room}
 use Rattle.after.proofs.Create.Images.{slot-at, slot-first, byte-from, part-from, Spans, begun, indexed, length-begun, begun-after, kept-marker, grown-marker, length-created, created-index, created-marker, created-identifier}
 
 -- ---- the index of an image that opens
@@ -68,40 +67,12 @@ identifier-same s t l d =
     let a = length s - slotBytes in
     rw (l, byte-from t s a d a (omega arith), part-from t s a d (a + 12) 52 (omega arith))
 
--- ---- where the run goes
--- behind the marker and before the identifier
-pub record Inside (slots : ℕ) (p : Place) : Type 0 where
-  pub low : 1 ≤ p .slot
-  pub high : slotBytes * (p .slot + slots + 1) ≤ p .geometry .indexBytes
-
 module _ (s : List ℕ) (v : Volume) (o : Opens s v) where
   sound : Sound s (v .geometry) (v .items)
   sound = sound-says s (v .geometry) (v .items) (o .index-sound)
 
   walked : v .items ≡ walkAll (innerSlots (v .geometry)) 1 (drop (slotAt s (v .geometry) 1) s)
   walked = o .items-are ∙ items-walk s (v .geometry)
-
-  -- the unused slots among the items
-  room : (slots k : ℕ) → lowestUnused slots (v .items) ≡ some k → Room slots 1 k (v .items)
-  room slots k f = rw walked (lowest-split slots (innerSlots (v .geometry)) 1 (drop (slotAt s (v .geometry) 1) s) k (rw walked at f))
-
-  room-slots : (slots k : ℕ) (r : Room slots 1 k (v .items)) → slotsIn (r .pre) + slots ≤ innerSlots (v .geometry)
-  room-slots slots k r =
-      let mid : List Item = unusedFrom k slots in
-      let all-of : slotsIn (v .items) ≡ innerSlots (v .geometry) = rw walked (slots-all (innerSlots (v .geometry)) 1 (drop (slotAt s (v .geometry) 1) s) (rw walked at (sound .faultless))) in
-      omega (arith, all-of, ap slotsIn (r .split), slotsIn-append (r .pre) (mid ++ r .post), slotsIn-append mid (r .post), unusedFrom-slots k slots)
-
-  pub place-inside : (slots : ℕ) (p : Place) → Placed (length s) v slots p → Inside slots p
-  place-inside slots p (inl a) =
-      let r = room slots (p .slot) (a .found) in
-      record {
-        low = omega (arith, r .place);
-        high = omega (arith, r .place, room-slots slots (p .slot) r, inner-slots (v .geometry), o .geometry-good .index-low, ap (λ (h : Geometry). h .indexBytes) (a .geometry-is));
-      }
-  place-inside slots p (inr a) = record {
-    low = omega (arith, a .slot-is);
-    high = omega (arith, a .slot-is, o .geometry-good .index-low, ap (λ (h : Geometry). h .indexBytes) (a .geometry-is), grown-index (v .geometry) (slotBytes * slots));
-  }
 
 -- ---- the entry added
 -- an entry but for its slot and its stamp: what is judged and seen of it
@@ -191,7 +162,7 @@ module _ (s : List ℕ) (v : Volume) (o : Opens s v) (new w : Geometry) (i : w .
   pub unused-added : lowestUnused (e .slots) (v .items) ≡ some (e .slot) → old .indexBytes ≡ new .indexBytes → Added t w e (entries v)
   unfolding indexed
   unused-added f same =
-      let r = room s v o (e .slots) (e .slot) f in
+      let r = unused-room s v o (e .slots) (e .slot) f in
       let a : ℕ = slotAt s new 1 in
       let n : ℕ = slotsIn (r .pre) in
       let l : slotAt s new (e .slot) ≡ a + slotBytes * n = omega (arith, slot-at s new (e .slot), slot-at s new 1, r .place) in

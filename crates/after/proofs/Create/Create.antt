@@ -27,10 +27,11 @@ use Rattle.laws.proofs.Entries.Walked.{settled-items}
 use Rattle.laws.proofs.Entries.Paths.{paths-create}
 use Rattle.laws.proofs.Entries.Creating.{place-fits, new-fresh}
 use Rattle.laws.proofs.Index.Runs.{Storable}
-use Rattle.after.proofs.Create.Inverted.{newBlocks, newSlots, newGeometry, Passed, create-passed, Placed, run-place}
-use Rattle.after.proofs.Create.Sizes.{same-length, grown-index, Grown, place-grown, Sizes, new-sizes}
+use Rattle.laws.proofs.Images.Sizes.{block-same as same-length}
+use Rattle.laws.proofs.Images.Placing.{newBlocks, newSlots, newGeometry, Placed, run-place, grown-index, RunFits, run-inside, Grown, place-grown, Sizes, new-sizes}
+use Rattle.after.proofs.Create.Inverted.{Passed, create-passed}
 use Rattle.after.proofs.Create.Images.{Spans, length-created, created-super}
-use Rattle.after.proofs.Create.Added.{Inside, place-inside, Added, unused-added, front-added}
+use Rattle.after.proofs.Create.Added.{Added, unused-added, front-added}
 use Rattle.after.proofs.Create.Made.{Made, new-made, kind-run, made-storable, made-spans}
 use Rattle.after.proofs.Create.Walked.{Bare, bare-items}
 use Rattle.after.proofs.Create.Seen.{regions-order, paths-order, seen-order, seen-kept, seen-new}
@@ -80,8 +81,8 @@ module _ (s : List ℕ) (v : Volume) (new : New) (path : List ℕ) (stamp : ℤ)
       new-fresh (length s) (c .place .geometry) g′ (entries v) new path stamp (c .place .slot) (c .start) blocks needed (c .file-placed)
       (sizes .same .reserved-same ∙ sym (grown .same .reserved-same)) (sizes .covers)
 
-  inside : Inside (newSlots new path) (c .place)
-  inside = place-inside s v o (newSlots new path) (c .place) placed
+  inside : RunFits (newSlots new path) (c .place)
+  inside = run-inside s v o (newSlots new path) (c .place) placed
 
   made : Made new path (c .place .slot) (c .start) blocks e
   made = new-made new path stamp (c .place .slot) (c .start) blocks

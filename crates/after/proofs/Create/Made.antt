@@ -18,9 +18,8 @@ use Rattle.rules.specs.Regions.Laws.{needed-covers}
 use Rattle.rules.specs.Writing.{New, newFile, newDirectory, kindOf, bytesOf, Place, newEntry}
 use Rattle.laws.proofs.Entries.Regions.{Regionless, Fresh, directory, empty, run}
 use Rattle.laws.proofs.Index.Runs.{Storable, length-runBytes}
-use Rattle.after.proofs.Create.Inverted.{newSlots}
+use Rattle.laws.proofs.Images.Placing.{newSlots, RunFits}
 use Rattle.after.proofs.Create.Images.{Spans}
-use Rattle.after.proofs.Create.Added.{Inside}
 
 -- ---- its fields
 pub record Made (new : New) (path : List ℕ) (slot start blocks : ℕ) (e : Entry) : Type 0 where
@@ -99,7 +98,7 @@ module _ (n : ℕ) (g : Geometry) (o : GoodGeometry n g) (high : n ≤ 16_777_21
     bare = λ f. let r = no-region g es e fresh f in (r .start, r .end, m .length-is ∙ no-bytes new (rw (m .kind-is) at f));
   }
 
-  pub made-spans : pathGood path ≡ true → (p : Place) → p .slot ≡ slot → p .geometry .indexBytes ≡ g .indexBytes → Inside (newSlots new path) p → Spans n g e (bytesOf new)
+  pub made-spans : pathGood path ≡ true → (p : Place) → p .slot ≡ slot → p .geometry .indexBytes ≡ g .indexBytes → RunFits (newSlots new path) p → Spans n g e (bytesOf new)
   made-spans q p s i h =
       let size : (e .end - e .start) * blockLength g ≡ blocks * blockLength g = ap (λ (k : ℕ). k * blockLength g) (omega (arith, m .start-is, m .end-is)) in
       record {
