@@ -4,6 +4,7 @@ pub mod Slots
 pub mod Items
 pub mod Walks
 pub mod Entries
+pub mod Ends
 pub mod Places
 pub mod Unused
 pub mod Shift

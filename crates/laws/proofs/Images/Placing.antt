@@ -26,7 +26,7 @@ use Rattle.laws.proofs.Index.Walks.{slots-all}
 use Rattle.laws.proofs.Index.Slots.{items-walk, inner-slots}
 use Rattle.laws.proofs.Index.Unused.{unusedFrom, unusedFrom-slots, Room, lowest-split}
 use Rattle.laws.proofs.Entries.Regions.{extend-keeps, extend-covers, extend-fits}
-use Rattle.laws.proofs.Images.Inner.{ends-good}
+use Rattle.laws.proofs.Index.Ends.{ends-good}
 use Rattle.laws.proofs.Images.Sizes.{restamp-index, restamp-end, ceiling-same, good-sizes}
 
 -- ---- what is placed

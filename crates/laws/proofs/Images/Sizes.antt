@@ -2,18 +2,20 @@
 use Prim.Native.Nat.{ℕ, _+_, _-_, _%_, _≤_, _<_}
 use mathlib.Core.Path.{_≡_, refl}
 use mathlib.Core.List.{List}
+use mathlib.Core.Logic.{inl}
 use native.Mathlib.Omega.{arith}
 use native.Mathlib.Nat.{mul-le-mul-right, div-mul-le-self}
 use lib.ListN.{length, drop}
 use lib.IntN.{ℤ}
-use Rattle.rules.specs.SuperBlock.{Geometry, blockLength, dataEnd, ceilingBlock, restamp, withStamp, putSizes, sizesBytes, superBlockAt}
-use Rattle.rules.specs.SuperBlock.Laws.{GoodGeometry, SameBlocks, block-low, reserved-pos, length-least, length-sizes, length-putSizes, putSizes-after}
-use Rattle.rules.specs.Index.{slotAt, identifierAt, itemsOf}
+use Rattle.rules.specs.SuperBlock.{Geometry, blockLength, dataEnd, ceilingBlock, restamp, withStamp, putSizes, superBlockAt, magicAt}
+use Rattle.rules.specs.SuperBlock.Laws.{GoodGeometry, SameBlocks, block-low, reserved-pos, length-least, length-putSizes, putSizes-before, putSizes-after}
+use Rattle.rules.specs.Index.{slotAt, slotBytes, itemsOf}
 use Rattle.rules.specs.Index.Walk.{pick-both}
-use Rattle.laws.proofs.Index.ListFacts.{drop-splice-after}
-use Rattle.laws.proofs.Images.Areas.{Between, index-start}
-use Rattle.laws.proofs.Images.Inner.{endsGood, ends-same, byte-from}
-use Rattle.laws.proofs.Images.Indexes.{items-same}
+use Rattle.laws.proofs.Lists.Spans.{SameBut, but-parts, but-drop}
+use Rattle.laws.proofs.Index.Slots.{slot-first}
+use Rattle.laws.proofs.Index.Ends.{endsGood}
+use Rattle.laws.proofs.Images.Kept.{Between, between-kept, area-ends, area-items}
+use Rattle.laws.proofs.Images.Areas.{index-start}
 
 -- ---- a stamp changes no size
 module _ (old new : Geometry) (stamp : ℤ) where
@@ -70,25 +72,26 @@ module _ (s : List ℕ) (g h : Geometry) (good : GoodGeometry (length s) g) wher
   room : superBlockAt + 42 ≤ length s
   room = omega (arith, length-least (length s) g good)
 
+  -- between the stamp and the magic, and nowhere else
+  pub sizes-written : SameBut superBlockAt magicAt s (putSizes s h)
+  sizes-written = but-parts superBlockAt magicAt s (putSizes s h) (length-putSizes s h room) (putSizes-before s h room) (putSizes-after s h room)
+
   pub sizes-long : length (putSizes s h) ≡ length s
-  sizes-long = length-putSizes s h room
+  sizes-long = sizes-written .long
 
-  pub sizes-between : Between s (putSizes s h) g
-  sizes-between a n low high = putSizes-after s h room a n (omega arith)
+  pub sizes-between : (k : Geometry) → Between s (putSizes s h) k
+  sizes-between k = between-kept sizes-written k (inl (omega arith))
 
-  sizes-drop : (n : ℕ) → 512 ≤ n → drop n (putSizes s h) ≡ drop n s
-  unfolding putSizes
-  sizes-drop n low = drop-splice-after s superBlockAt (sizesBytes h) (omega (arith, room)) n (omega (arith, length-sizes h))
+  pub sizes-drop : (n : ℕ) → 512 ≤ n → drop n (putSizes s h) ≡ drop n s
+  sizes-drop n low = but-drop sizes-written n (omega arith)
 
   -- and its index, by any geometry with an index area of this size
   module _ (k : Geometry) (index : k .indexBytes ≡ g .indexBytes) where
+    area : drop (slotAt s g 0) (putSizes s h) ≡ drop (slotAt s g 0) s
+    area = sizes-drop (slotAt s g 0) (omega (arith, slot-first s g, index-start s g good))
+
     pub sizes-ends : endsGood (putSizes s h) k ≡ endsGood s g
-    unfolding slotAt identifierAt
-    sizes-ends =
-        ends-same s (putSizes s h) g k sizes-long index
-        (sizes-drop (identifierAt s) (omega (arith, length-least (length s) g good)))
-        (byte-from s (putSizes s h) (slotAt s g 0) (sizes-drop (slotAt s g 0) (omega (arith, index-start s g good))))
+    sizes-ends = area-ends s (putSizes s h) g k (omega (arith, good .index-low)) sizes-long index area
 
     pub sizes-items : itemsOf (putSizes s h) k ≡ itemsOf s g
-    unfolding slotAt
-    sizes-items = items-same s (putSizes s h) g k sizes-long index (sizes-drop (slotAt s g 1) (omega (arith, index-start s g good)))
+    sizes-items = area-items s (putSizes s h) g k (omega (arith, good .index-low)) sizes-long index area
