@@ -24,8 +24,8 @@ use Rattle.units.specs.declared.Offset.{Offset}
 use Rattle.super_block.specs.Written.{byte-alone, stamp-bits}
 use Rattle.laws.proofs.Index.Items.{slotsIn}
 use Rattle.laws.proofs.Index.Places.{Found, first-split, slot-there, place-within}
+use Rattle.laws.proofs.Index.Slots.{items-walk}
 use Rattle.laws.proofs.Images.Areas.{slot-on, inner-end}
-use Rattle.laws.proofs.Images.Indexes.{items-walk}
 use Rattle.judging.specs.View.{Opened, volumeOf, opened-super}
 use Rattle.erasing.specs.declared.Doom.{Doom}
 use Rattle.erasing.specs.declared.Doom.the-variants.{Refused, At}

@@ -1,8 +1,10 @@
 -- Theorems about the walk over the index.
 pub mod ListFacts
+pub mod Slots
 pub mod Items
 pub mod Walks
 pub mod Entries
+pub mod Ends
 pub mod Places
 pub mod Unused
 pub mod Shift

@@ -24,9 +24,8 @@ use Rattle.rules.specs.Refusals.Laws.{Opens, judge-opens}
 use Rattle.rules.specs.Writing.{New, newFile, newDirectory, kindOf, bytesOf, nearestLive, Place, placeRun, placeFile, newEntry, created, createOf}
 use Rattle.rules.specs.Writing.Laws.{refusedWrite, wrote, create-refused, create-later, create-name, create-live, create-orphan, create-slots, create-blocks, create-done}
 use Rattle.laws.proofs.Entries.Creating.{block-pos, place-fits}
-use Rattle.after.proofs.Create.Inverted.{newBlocks, newSlots, newGeometry, Placed, run-place}
-use Rattle.after.proofs.Create.Added.{Inside, place-inside}
-use Rattle.after.proofs.Create.Sizes.{Grown, place-grown, Sizes, new-sizes, same-length}
+use Rattle.laws.proofs.Images.Sizes.{block-same}
+use Rattle.laws.proofs.Images.Placing.{newBlocks, newSlots, newGeometry, Placed, run-place, RunFits, run-inside, Grown, place-grown, Sizes, new-sizes}
 use Rattle.geometry.specs.View.{geometryView}
 use Rattle.geometry.specs.declared.Geometry.{Geometry as Held}
 use Rattle.regions.specs.Bounds.{good-bounded}
@@ -174,7 +173,7 @@ sizes-of n g h end stamp w e k fits = rw e (new-sizes n g h end stamp k fits)
 
 -- a file's blocks, by the geometry before and by the one written
 blocks-hold : (n : ℕ) (g h : Geometry) (end : ℕ) (w : Geometry) → Sizes n g h end w → (bytes : ℕ) → bytes ≤ blocksNeeded (blockLength g) bytes * blockLength w
-blocks-hold n g h end w z bytes = rw (same-length g w (z .same)) (needed-covers (blockLength g) bytes (block-pos g))
+blocks-hold n g h end w z bytes = rw (block-same g w (z .same)) (needed-covers (blockLength g) bytes (block-pos g))
 
 module _ (s : List ℕ) (new : New) (path : List ℕ) (stamp : ℤ) (p : Site) (opened : Opened s (p .old)) (passed : Clear s (p .old) path) (grown : Held) (slots : p .slots ≡ newSlots new path)
     (run : placeRun (length s) (volumeOf s (geometryView (p .old))) (newSlots new path) ≡ some (record { slot = p .slot .0; geometry = geometryView grown }))
@@ -202,8 +201,8 @@ module _ (s : List ℕ) (new : New) (path : List ℕ) (stamp : ℤ) (p : Site) (
   sizes : Sizes (length s) g (geometryView grown) (p .end .0) w
   sizes = sizes-of (length s) g (geometryView grown) (p .end .0) stamp w view (run-grown s (p .old) opened new path passed place run) fits
 
-  inside : Inside (newSlots new path) place
-  inside = place-inside s (volumeOf s g) says (newSlots new path) place (run-place (length s) (volumeOf s g) (newSlots new path) place run)
+  inside : RunFits (newSlots new path) place
+  inside = run-inside s (volumeOf s g) says (newSlots new path) place (run-place (length s) (volumeOf s g) (newSlots new path) place run)
 
   span : p .end .0 - p .start .0 ≡ blocks
   span = omega (arith, end)

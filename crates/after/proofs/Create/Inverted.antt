@@ -1,4 +1,4 @@
--- What an accepted create has passed, and where it places the run. Assumes nothing.
+-- What an accepted create has passed. Assumes nothing.
 use Prim.Native.Nat.{ℕ, _+_, _*_, _≤_, _<_}
 use mathlib.Core.Path.{_≡_, refl, sym, ap, _∙_}
 use mathlib.Core.Bool.{Bool, true, false, not}
@@ -21,7 +21,7 @@ use Rattle.rules.specs.Refusals.{Verdict, accepted, need, needFound, Volume, en
 use Rattle.rules.specs.Refusals.Laws.{need-true, found-some, then-next}
 use Rattle.rules.specs.Outcome.{done, conclude, onVolume}
 use Rattle.rules.specs.Writing.{Written, New, kindOf, bytesOf, nearestLive, lowestUnused, Place, mayGrow, grownPlace, placeFrom, placeRun, placeFile, newEntry, created, createOf}
-use Rattle.laws.proofs.Index.ListFacts.{some-same, none-some}
+use Rattle.laws.proofs.Images.Placing.{newBlocks, newSlots, newGeometry}
 
 -- ---- the chain
 -- a verdict that refuses nothing
@@ -45,17 +45,6 @@ not-some none e = refl
 not-some (some x) e = clash (sym e)
 
 -- ---- what it writes
--- the blocks of the file, and the slots of the run
-abbrev pub newBlocks : Geometry → New → ℕ
-newBlocks g new = blocksNeeded (blockLength g) (length (bytesOf new))
-
-abbrev pub newSlots : New → List ℕ → ℕ
-newSlots new path = 1 + continuing (kindOf new) (length path)
-
--- the geometry after it, h the one after any growth of the index
-abbrev pub newGeometry : Geometry → Geometry → ℕ → ℤ → Geometry
-newGeometry g h end stamp = restamp g (extendData h end) stamp
-
 pub record Passed (s : List ℕ) (v : Volume) (new : New) (path : List ℕ) (stamp : ℤ) : Type 0 where
   pub place : Place
   pub start : ℕ
@@ -91,38 +80,3 @@ create-passed s v new path stamp o e =
       file-placed = p₆ .1;
       image-is = ap (λ (x : Written). x .image) (w ∙ ap (conclude tt s []) c);
     }
-
--- ---- where the run goes
--- to unused slots of the index as it is
-pub record AtUnused (v : Volume) (slots : ℕ) (p : Place) : Type 0 where
-  pub found : lowestUnused slots (v .items) ≡ some (p .slot)
-  pub geometry-is : p .geometry ≡ v .geometry
-
--- to the front of the index, which grows by it
-pub record AtFront (n : ℕ) (v : Volume) (slots : ℕ) (p : Place) : Type 0 where
-  pub slot-is : p .slot ≡ 1
-  pub geometry-is : p .geometry ≡ growIndex (v .geometry) (slotBytes * slots)
-  pub index-high : p .geometry .indexBytes ≤ 262_144
-  pub data-fits : dataEnd (p .geometry) ≤ ceilingBlock n (p .geometry)
-
-abbrev pub Placed : ℕ → Volume → ℕ → Place → Type 0
-Placed n v slots p = AtUnused v slots p ⊎ AtFront n v slots p
-
-grown-by : (n : ℕ) (v : Volume) (slots : ℕ) (p : Place) (h : Geometry) → h ≡ growIndex (v .geometry) (slotBytes * slots) → (b : Bool) → mayGrow n h ≡ b
-    → pick b (some (record { slot = 1; geometry = h })) none ≡ some p → AtFront n v slots p
-unfolding pick mayGrow
-grown-by n v slots p h g false e q = none-some p q
-grown-by n v slots p h g true e q =
-    let i : record { slot = 1; geometry = h } ≡ p = some-same _ p q in
-    let m = and-true (leb (h .indexBytes) 262_144) (leb (dataEnd h) (ceilingBlock n h)) e in
-    rw (← i) (record { slot-is = refl; geometry-is = g; index-high = leb-true (h .indexBytes) 262_144 (m .0); data-fits = leb-true (dataEnd h) (ceilingBlock n h) (m .1) })
-
-pub run-place : (n : ℕ) (v : Volume) (slots : ℕ) (p : Place) → placeRun n v slots ≡ some p → Placed n v slots p
-unfolding placeRun placeFrom grownPlace
-run-place n v slots p e = go (lowestUnused slots (v .items)) refl e
-  where
-    go : (o : Option ℕ) → lowestUnused slots (v .items) ≡ o → placeFrom n (v .geometry) slots o ≡ some p → Placed n v slots p
-    go none l q = inr (grown-by n v slots p (growIndex (v .geometry) (slotBytes * slots)) refl (mayGrow n (growIndex (v .geometry) (slotBytes * slots))) refl q)
-    go (some k) l q =
-        let i : record { slot = k; geometry = v .geometry } ≡ p = some-same _ p q in
-        inl (rw (← i) (record { found = l; geometry-is = refl }))

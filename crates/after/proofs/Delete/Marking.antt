@@ -22,7 +22,9 @@ use Rattle.laws.proofs.Entries.EntryKinds.{deleted-gone}
 use Rattle.laws.proofs.Entries.Regions.{sound-says}
 use Rattle.laws.proofs.Entries.Paths.{liveAt-says}
 use Rattle.laws.proofs.Entries.Deleting.{deletedEntry, deleteAt, delete-here, delete-other}
-use Rattle.laws.proofs.Images.Areas.{Between, Bare, bytes-kept}
+use Rattle.laws.proofs.Entries.Walked.{Bare}
+use Rattle.laws.proofs.Images.Kept.{Between}
+use Rattle.laws.proofs.Images.Areas.{bytes-kept}
 
 -- a test that fails together with another
 not-too : (a b : Bool) → (a && b) ≡ false → a ≡ (a && not b)

@@ -15,7 +15,8 @@ use Rattle.laws.proofs.Lists.Parts.{append-assoc}
 use Rattle.laws.proofs.Index.Items.{noFault, noFault-cons, noFault-swap}
 use Rattle.laws.proofs.Index.Places.{entriesOf-append}
 use Rattle.laws.proofs.Index.Unused.{unusedFrom, unusedFrom-sound, unusedFrom-entries}
-use Rattle.laws.proofs.Images.Inner.{Inner, inner-self, inner-then}
+use Rattle.laws.proofs.Lists.Spans.{but-none}
+use Rattle.laws.proofs.Images.Inner.{Inner, inner-then}
 use Rattle.laws.proofs.Images.Indexes.{cleared-inner, cleared-items}
 
 -- ---- what is left of the items
@@ -93,13 +94,13 @@ turn-entry g rest rec e s pre good here sound true =
     (cleared-inner s g good pre e rest here sound)
     (cleared-items s g good pre e rest here sound)
     (noFault-swap pre (entry e ∷ []) (unusedFrom (e .slot) (e .slots)) rest sound (unusedFrom-sound (e .slot) (e .slots)))
-turn-entry g rest rec e s pre good here sound false = turn g rest rec s s pre (entry e ∷ []) good (inner-self s g) here sound
+turn-entry g rest rec e s pre good here sound false = turn g rest rec s s pre (entry e ∷ []) good (but-none _ _ s) here sound
 
 pub clear-rest : (g : Geometry) (rest : List Item) → Rest g rest
 unfolding cleared clearedItems clearedItem entriesOf
-clear-rest g [] s pre good here sound = record { inner = inner-self s g; items = here }
-clear-rest g (unused k ∷ rest) s pre good here sound = turn g rest (clear-rest g rest) s s pre (unused k ∷ []) good (inner-self s g) here sound
-clear-rest g (fault k ∷ rest) s pre good here sound = turn g rest (clear-rest g rest) s s pre (fault k ∷ []) good (inner-self s g) here sound
+clear-rest g [] s pre good here sound = record { inner = but-none _ _ s; items = here }
+clear-rest g (unused k ∷ rest) s pre good here sound = turn g rest (clear-rest g rest) s s pre (unused k ∷ []) good (but-none _ _ s) here sound
+clear-rest g (fault k ∷ rest) s pre good here sound = turn g rest (clear-rest g rest) s s pre (fault k ∷ []) good (but-none _ _ s) here sound
 clear-rest g (entry e ∷ rest) s pre good here sound = turn-entry g rest (clear-rest g rest) e s pre good here sound (isDeleted e)
 
 -- all of an index

@@ -1,4 +1,4 @@
--- What each write to the index leaves of the walk: a run written, a run deleted, a run cleared, the index grown.
+-- What two writes to the index leave of the walk: a run deleted, and the index grown by a run.
 use Prim.Native.Nat.{ℕ, _+_, _-_, _*_, _≤_, _<_}
 use mathlib.Core.Path.{_≡_, refl, ap, _∙_}
 use mathlib.Core.Bool.{true}
@@ -21,36 +21,13 @@ use Rattle.laws.proofs.Index.Runs.{Storable, stored, walk-runBytes, len
 use Rattle.laws.proofs.Index.Deleted.{deletedEntry, item-deleted, take-deleted, drop-deleted, deleted-part}
 
 -- an entry alone
-one-sound : (e : Entry) → noFault (entry e ∷ [])
+pub one-sound : (e : Entry) → noFault (entry e ∷ [])
 unfolding all isFault
 one-sound e = refl
 
-one-slots : (e : Entry) → slotsIn (entry e ∷ []) ≡ e .slots
+pub one-slots : (e : Entry) → slotsIn (entry e ∷ []) ≡ e .slots
 unfolding slotsOf
 one-slots e = slotsIn-cons (entry e) [] ∙ omega (arith, slotsIn-nil)
-
--- ---- a run written to unused slots
-pub walk-created : (left k : ℕ) (a : List ℕ) (e : Entry) (pre post : List Item)
-    → walkAll left k a ≡ pre ++ (unusedFrom (e .slot) (e .slots) ++ post) → noFault (pre ++ (unusedFrom (e .slot) (e .slots) ++ post)) → slotBytes * left ≤ length a
-    → Storable e → e .slot ≡ k + slotsIn pre
-    → walkAll left k (splice a (slotBytes * slotsIn pre) (runBytes e)) ≡ pre ++ (entry (stored e) ∷ post)
-walk-created left k a e pre post q s room h place =
-    let m : slotsIn (unusedFrom (e .slot) (e .slots)) ≡ e .slots = unusedFrom-slots (e .slot) (e .slots) in
-    let w : walkAll (slotsIn (unusedFrom (e .slot) (e .slots))) (k + slotsIn pre) (runBytes e) ≡ entry (stored e) ∷ [] = rw (m, ← place) (walk-runBytes e h) in
-    walk-replace left k a (runBytes e) pre (unusedFrom (e .slot) (e .slots)) post q s room (rw m (length-runBytes e h)) (rw w (one-sound (stored e)))
-    ∙ rw w
-
--- ---- a run that becomes unused slots
-pub walk-cleared : (left k : ℕ) (a : List ℕ) (e : Entry) (pre post : List Item)
-    → walkAll left k a ≡ pre ++ (entry e ∷ post) → noFault (pre ++ (entry e ∷ post)) → slotBytes * left ≤ length a
-    → walkAll left k (splice a (slotBytes * slotsIn pre) (unusedBytes (e .slots))) ≡ pre ++ (unusedFrom (e .slot) (e .slots) ++ post)
-unfolding itemSlot
-walk-cleared left k a e pre post q s room =
-    let place : e .slot ≡ k + slotsIn pre = slot-there left k a pre (entry e) post q in
-    let w : walkAll (slotsIn (entry e ∷ [])) (k + slotsIn pre) (unusedBytes (e .slots)) ≡ unusedFrom (e .slot) (e .slots) =
-    rw (one-slots e, ← place) (walk-unusedBytes (e .slot) (e .slots)) in
-    walk-replace left k a (unusedBytes (e .slots)) pre (entry e ∷ []) post q s room (rw (one-slots e) (length-unusedBytes (e .slots))) (rw w (unusedFrom-sound (e .slot) (e .slots)))
-    ∙ rw w
 
 -- ---- a run deleted
 pub walk-deleted : (left k : ℕ) (a : List ℕ) (e : Entry) (stamp : ℤ) (pre post : List Item)

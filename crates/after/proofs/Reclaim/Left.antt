@@ -6,7 +6,7 @@ use mathlib.Core.List.{List}
 use native.Mathlib.Omega.{arith}
 use lib.ListN.{length}
 use lib.IntN.{ℤ}
-use Rattle.rules.specs.Lists.{only, All}
+use Rattle.rules.specs.Lists.{only}
 use Rattle.rules.specs.SuperBlock.{Geometry, blockLength, dataEnd, trimData, withData, withStamp, restamp, putSizes}
 use Rattle.rules.specs.SuperBlock.Laws.{GoodGeometry, SameBlocks, same-self, same-trim, same-restamp, asStored, stored-block, stored-index}
 use Rattle.rules.specs.Index.{Entry, itemsOf}
@@ -17,13 +17,14 @@ use Rattle.rules.specs.Writing.{reclaimOf, cleared, undeleted, leastEnd, isDele
 use Rattle.after.specs.After.{Left, sight, AfterReclaim}
 use Rattle.laws.proofs.Lists.Perms.{perm-of}
 use Rattle.laws.proofs.Index.Items.{noFault}
-use Rattle.laws.proofs.Entries.Regions.{Settled, sound-geometry, sound-reclaim, sound-restamp, trim-fits}
-use Rattle.laws.proofs.Entries.Walked.{settled-items}
+use Rattle.laws.proofs.Entries.Regions.{sound-geometry, sound-reclaim, sound-restamp, trim-fits}
+use Rattle.laws.proofs.Entries.Walked.{settled-entries, bare-entries}
 use Rattle.laws.proofs.Entries.Paths.{paths-reclaim}
 use Rattle.laws.proofs.Images.Accepted.{passed-writable, passed-done}
-use Rattle.laws.proofs.Images.Areas.{Between, Bare}
-use Rattle.laws.proofs.Images.Inner.{ends-good, endsGood, inner-index, inner-between, inner-opens}
-use Rattle.laws.proofs.Images.Indexes.{bare-entries, items-same}
+use Rattle.laws.proofs.Index.Slots.{items-same}
+use Rattle.laws.proofs.Index.Ends.{ends-good, endsGood}
+use Rattle.laws.proofs.Images.Kept.{Between}
+use Rattle.laws.proofs.Images.Inner.{inner-index, inner-between, inner-opens}
 use Rattle.laws.proofs.Images.Sizes.{restamp-index, restamp-end, block-same, good-shrunk, sizes-long, sizes-between, sizes-ends, sizes-items}
 use Rattle.after.proofs.Reclaim.Clearing.{Cleared, clearedItems, cleared-entries, cleared-sound, clear-all}
 use Rattle.after.proofs.Reclaim.Keeping.{all-kept}
@@ -53,12 +54,9 @@ module _ (s : List ℕ) (v : Volume) (stamp : ℤ) (o : Opens s v) where
   unfolding trimmed trimData withData
   index = restamp-index g (trimData g (leastEnd (undeleted (entries v)))) stamp
 
-  settled : All Settled (entries v)
-  settled = rw (o .items-are) (settled-items s g)
-
   shrinks : dataEnd h ≤ dataEnd g
   unfolding trimmed
-  shrinks = omega (arith, restamp-end g (trimData g (leastEnd (undeleted (entries v)))) stamp, trim-fits g (entries v) settled (o .regions-sound))
+  shrinks = omega (arith, restamp-end g (trimData g (leastEnd (undeleted (entries v)))) stamp, trim-fits g (entries v) (settled-entries s v o) (o .regions-sound))
 
   good : GoodGeometry (length s) h
   good = good-shrunk g h same (length s) index shrinks (o .geometry-good)
@@ -119,7 +117,7 @@ module _ (s : List ℕ) (v : Volume) (stamp : ℤ) (o : Opens s v) where
   unfolding begun
   between a n low high =
       inner-between begun image h (rw long good) (clears .inner) a n low (omega (arith, long, index))
-      ∙ sizes-between s g h (o .geometry-good) a n low high
+      ∙ sizes-between s g h (o .geometry-good) g a n low high
 
   block : blockLength (asStored h) ≡ blockLength g
   block = stored-block h ∙ block-same g h same
@@ -127,8 +125,7 @@ module _ (s : List ℕ) (v : Volume) (stamp : ℤ) (o : Opens s v) where
   keeps : sight image volume ≡ only (λ k. k .live) (sight s v)
   unfolding sight volume
   keeps =
-      let bare : All Bare (entries v) = rw (o .items-are) (bare-entries s g) in
-      rw (cleared-entries (v .items)) (all-kept s image g (asStored h) (o .geometry-good) between block (entries v) bare (o .regions-sound))
+      rw (cleared-entries (v .items)) (all-kept s image g (asStored h) (o .geometry-good) between block (entries v) (bare-entries s v o) (o .regions-sound))
 
   left : Left image (blockLength g) (only (λ k. k .live) (sight s v))
   unfolding volume

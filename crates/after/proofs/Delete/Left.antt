@@ -7,7 +7,7 @@ use mathlib.Core.Option.{some}
 use native.Mathlib.Omega.{arith}
 use borrow.Author.Tests.{not-true}
 use lib.IntN.{ℤ}
-use Rattle.rules.specs.Lists.{all, All}
+use Rattle.rules.specs.Lists.{all}
 use Rattle.rules.specs.SuperBlock.{blockLength}
 use Rattle.rules.specs.SuperBlock.Laws.{storedStamp}
 use Rattle.rules.specs.Names.{pathGood}
@@ -25,9 +25,10 @@ use Rattle.laws.proofs.Index.Deleted.{live-run, deletedEntry as gone}
 use Rattle.laws.proofs.Entries.Paths.{liveAt-says}
 use Rattle.laws.proofs.Entries.Deleting.{deletedEntry, deleteAt, delete-one, delete-regions, delete-paths}
 use Rattle.laws.proofs.Images.Accepted.{passed-need, passed-found, passed-writable, passed-done}
-use Rattle.laws.proofs.Images.Areas.{Bare}
-use Rattle.laws.proofs.Images.Inner.{Inner, ends-good, inner-between, inner-opens}
-use Rattle.laws.proofs.Images.Indexes.{bare-entries, deleted-inner, deleted-items}
+use Rattle.laws.proofs.Index.Ends.{ends-good}
+use Rattle.laws.proofs.Entries.Walked.{bare-entries}
+use Rattle.laws.proofs.Images.Inner.{Inner, inner-between, inner-opens}
+use Rattle.laws.proofs.Images.Indexes.{deleted-inner, deleted-items}
 use Rattle.after.proofs.Delete.Marking.{all-marked}
 
 -- ---- what an accepted delete found
@@ -105,9 +106,8 @@ module _ (s : List ℕ) (v : Volume) (path : List ℕ) (stamp : ℤ) (o : Opens 
   marks : sight image volume ≡ map (marked path) (sight s v)
   unfolding sight volume
   marks =
-      let bare : All Bare (entries v) = rw (o .items-are) (bare-entries s (v .geometry)) in
       rw entries-after
-      (all-marked s image (v .geometry) (o .geometry-good) (inner-between s image (v .geometry) (o .geometry-good) inner) path (storedStamp stamp) (entries v) bare (o .regions-sound))
+      (all-marked s image (v .geometry) (o .geometry-good) (inner-between s image (v .geometry) (o .geometry-good) inner) path (storedStamp stamp) (entries v) (bare-entries s v o) (o .regions-sound))
 
   left : Left (deleteOf s path stamp .image) (blockLength (v .geometry)) (map (marked path) (sight s v))
   unfolding image volume

@@ -12,7 +12,7 @@ use Rattle.rules.specs.SuperBlock.{Geometry, lengthGood, geometryGood, fieldOf,
 use Rattle.rules.specs.SuperBlock.Laws.{GoodGeometry, geometry-good, length-least, asStored, stored-block, stored-index, field-is}
 use Rattle.rules.specs.Names.{volumeNameGood}
 use Rattle.rules.specs.Names.Laws.{volume-name}
-use Rattle.rules.specs.Index.{itemsOf, innerSlots, walk, walkAll, entriesOf, slotBytes}
+use Rattle.rules.specs.Index.{entriesOf}
 use Rattle.rules.specs.Regions.{regionsSound}
 use Rattle.rules.specs.Paths.{pathsSound}
 use Rattle.rules.specs.Refusals.{Volume}
@@ -22,7 +22,8 @@ use Rattle.rules.specs.Writing.{formatOf, formatted, freshGeometry}
 use Rattle.laws.proofs.Lists.Perms.{perm-of}
 use Rattle.after.specs.After.{sight, AfterFormat}
 use Rattle.after.proofs.Format.Answers.{passed-need, passed-found}
-use Rattle.after.proofs.Format.Ends.{ends-sound}
+use Rattle.laws.proofs.Index.Ends.{ends-sound}
+use Rattle.laws.proofs.Index.Slots.{no-items}
 
 -- ---- what was asked for, and what was written
 record Asked (s : List ℕ) (bytesPerBlock reserved : ℕ) (name : List ℕ) (stamp : ℤ) : Type 0 where
@@ -54,10 +55,6 @@ asked s bytesPerBlock reserved name stamp e =
 fresh-index : (n b reserved : ℕ) (stamp : ℤ) → freshGeometry n b reserved stamp .indexBytes ≡ 128
 unfolding freshGeometry
 fresh-index n b reserved stamp = refl
-
-no-items : (t : List ℕ) (g : Geometry) → g .indexBytes ≡ 128 → itemsOf t g ≡ []
-unfolding itemsOf innerSlots walkAll walk
-no-items t g i = let z : g .indexBytes / slotBytes - 2 ≡ 0 = omega arith in rw z
 
 no-regions : (g : Geometry) → regionsSound g (entriesOf []) ≡ true
 unfolding regionsSound entriesOf all everyTwo
