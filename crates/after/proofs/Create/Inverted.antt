@@ -10,18 +10,14 @@ use lib.ListN.{length}
 use lib.Dec.{leb}
 use lib.IntN.{ℤ}
 use borrow.Author.Tests.{leb-true}
-use Rattle.rules.specs.Lists.{pick, isSome}
-use Rattle.rules.specs.Lists.Laws.{clash, and-true}
-use Rattle.rules.specs.SuperBlock.{Geometry, blockLength, ceilingBlock, dataEnd, growIndex, extendData, restamp}
+use Rattle.rules.specs.Lists.{isSome}
+use Rattle.rules.specs.Lists.Laws.{clash}
 use Rattle.rules.specs.Names.{newPathGood, leading}
-use Rattle.rules.specs.Index.{continuing, slotBytes}
-use Rattle.rules.specs.Regions.{blocksNeeded}
 use Rattle.rules.specs.Paths.{lookup}
 use Rattle.rules.specs.Refusals.{Verdict, accepted, need, needFound, Volume, entries, judge}
 use Rattle.rules.specs.Refusals.Laws.{need-true, found-some, then-next}
 use Rattle.rules.specs.Outcome.{done, conclude, onVolume}
-use Rattle.rules.specs.Writing.{Written, New, kindOf, bytesOf, nearestLive, lowestUnused, Place, mayGrow, grownPlace, placeFrom, placeRun, placeFile, newEntry, created, createOf}
-use Rattle.laws.proofs.Images.Placing.{newBlocks, newSlots, newGeometry}
+use Rattle.rules.specs.Writing.{Written, New, nearestLive, Place, placeRun, placeFile, created, createOf, newSlots, newBlocks, siteOf}
 
 -- ---- the chain
 -- a verdict that refuses nothing
@@ -55,12 +51,11 @@ pub record Passed (s : List ℕ) (v : Volume) (new : New) (path : List ℕ) (sta
   pub file-placed : placeFile (length s) (place .geometry) (entries v) (newBlocks (v .geometry) new) ≡ some start
   pub image-is :
       createOf s new path stamp .image
-      ≡ created s (v .geometry) (newGeometry (v .geometry) (place .geometry) (start + newBlocks (v .geometry) new) stamp)
-      (newEntry new path stamp (place .slot) start (newBlocks (v .geometry) new)) (bytesOf new)
+      ≡ created s (siteOf v new path stamp place start) new path stamp
 
 pub create-passed : (s : List ℕ) (v : Volume) (new : New) (path : List ℕ) (stamp : ℤ) → judge s ≡ accepted v → createOf s new path stamp .refusal ≡ 0
     → Passed s v new path stamp
-unfolding createOf onVolume newEntry conclude done
+unfolding createOf onVolume conclude done
 create-passed s v new path stamp o e =
     let w = ap (conclude tt s []) (then-next _ o) in
     let p₁ = need-passes s _ 9 _ (omega arith) (sym (ap (λ (x : Written). x .refusal) w) ∙ e) in

@@ -7,10 +7,8 @@ use native.Mathlib.Omega.{arith}
 use lib.ListN.{length, getD, take, drop}
 use lib.Dec.{eqb}
 use borrow.Author.Tests.{ne-eqb}
-use Rattle.rules.specs.Lists.{pick, all}
-use Rattle.rules.specs.Fields.{byteAt}
-use Rattle.rules.specs.Index.{Entry, Item, unused, entry, fault, itemAt, runAt, entryAt, unusableAt, followed, walk, WalkEquation, StepsSuffice, entriesOf, isFault, runSlots, slotBytes, runType, strayType, nameGood, nameField}
-use Rattle.rules.specs.Lists.Laws.{and-true}
+use Rattle.rules.specs.Lists.{pick}
+use Rattle.rules.specs.Index.{Entry, Item, unused, entry, fault, itemAt, runAt, entryAt, unusableAt, followed, walk, WalkEquation, StepsSuffice, runSlots, slotBytes}
 unfoldable pub use Rattle.rules.specs.Index.{walkAll}
 
 -- the slots of an item
