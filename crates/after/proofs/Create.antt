@@ -1,5 +1,5 @@
 -- What an accepted create leaves: the claim is `create-left`.
-pub mod Inverted
+pub mod Passed
 pub mod Added
 pub mod Made
 pub mod Seen

@@ -1,3 +1,2 @@
 -- What an accepted format leaves: the claim is `format-left`.
-pub mod Answers
 pub mod Left

@@ -5,6 +5,7 @@ pub mod Areas
 pub mod Region
 pub mod Inner
 pub mod Indexes
+pub mod Clearing
 pub mod Sizes
 pub mod Marker
 pub mod Placing

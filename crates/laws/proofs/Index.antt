@@ -9,5 +9,5 @@ pub mod Places
 pub mod Unused
 pub mod Shift
 pub mod Runs
-pub mod Deleted
+pub mod Retyped
 pub mod Writes

@@ -172,14 +172,14 @@ walk (suc steps) (suc left) k a =
 unfoldable pub walkAll : ℕ → ℕ → List ℕ → List Item
 walkAll left k a = walk left left k a
 
--- its equation: the item that stands first, then the walk over the slots behind it
+-- its equation (`walk-equation`): the item that stands first, then the walk over the slots behind it
 abbrev pub WalkEquation : Type 0
 WalkEquation =
     (left k : ℕ) (a : List ℕ)
     → walkAll left k a
     ≡ pick (eqb left 0) [] (followed (itemAt left k a) (λ n. walkAll (left - n) (k + n) (drop (slotBytes * n) a)))
 
--- the count never runs out: with more steps the walk is the same
+-- the count never runs out (`steps-suffice`): with more steps the walk is the same
 abbrev pub StepsSuffice : Type 0
 StepsSuffice = (steps left k : ℕ) (a : List ℕ) → left ≤ steps → walk steps left k a ≡ walkAll left k a
 

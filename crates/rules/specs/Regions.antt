@@ -61,7 +61,7 @@ lowestFrom es k (suc n) b = let r = lowestFrom es k n (suc b) in firstIf (runFre
 unfoldable pub lowestFree : List Entry → ℕ → ℕ → ℕ → Option ℕ
 lowestFree es k low ceiling = lowestFrom es k (ceiling + 1 - (low + k)) low
 
--- what that says, for `lowest-run`: k free blocks that start no lower than `low`, and no lower start has them; or no start has
+-- what that says (`lowest-run`): k free blocks between `low` and `ceiling`, and no lower start has them; or no start has them
 unfoldable pub LowestRun : List Entry → ℕ → ℕ → ℕ → Option ℕ → Type 0
 LowestRun es k low ceiling (some b) =
     (low ≤ b) × (b + k ≤ ceiling) × (runFree es b k ≡ true) × ((u : ℕ) → low ≤ u → u < b → runFree es u k ≡ false)

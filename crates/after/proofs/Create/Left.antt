@@ -21,7 +21,7 @@ use Rattle.rules.specs.Refusals.Laws.{GoodSuper, Opens, judge-opens, opens-judg
 use Rattle.rules.specs.Reading.{fileBytes}
 use Rattle.rules.specs.Writing.{New, bytesOf, newEntry, putMarker, created, newSlots, newBlocks, Site, siteOf}
 use Rattle.rules.specs.History.{Kept, keptOf}
-use Rattle.after.specs.After.{isNamed, seen, sight, Left, AfterCreate}
+use Rattle.after.specs.After.{isNamed, seen, sight, unusables, Left, AfterCreate}
 use Rattle.laws.proofs.Lists.Every.{all-weaken, all-and, all-only, map-ext}
 use Rattle.laws.proofs.Lists.Spans.{SameBut, but-drop}
 use Rattle.laws.proofs.Index.Items.{noFault}
@@ -39,10 +39,11 @@ use Rattle.laws.proofs.Images.Inner.{inner-index, inner-between, inner-opens}
 use Rattle.laws.proofs.Images.Sizes.{block-same, sizes-long, sizes-between, sizes-drop, sizes-ends}
 use Rattle.laws.proofs.Images.Marker.{marker-written, marker-good}
 use Rattle.laws.proofs.Images.Placing.{newGeometry, Placed, run-place, unused-room, grown-index, Grown, place-grown, Sizes, new-sizes}
-use Rattle.after.proofs.Create.Inverted.{Passed, create-passed}
+use Rattle.after.proofs.Unusable.{extents-named}
+use Rattle.after.proofs.Create.Passed.{CreatePassed, create-passed}
 use Rattle.after.proofs.Create.Added.{Added, unused-added, front-added}
 use Rattle.after.proofs.Create.Made.{Made, new-made, kind-run, fresh-region, bytes-fit, blocks-fit, made-storable}
-use Rattle.after.proofs.Create.Seen.{regions-order, paths-order, seen-order, seen-new}
+use Rattle.after.proofs.Create.Seen.{regions-order, paths-order, seen-order, extents-order, seen-new}
 
 -- a stamp does not matter to the regions
 stored-regions : (g : Geometry) (es : List Entry) → regionsSound (asStored g) es ≡ regionsSound g es
@@ -67,7 +68,7 @@ bytes-block : (s : List ℕ) (g h : Geometry) (f : Entry) → blockLength h ≡ 
 unfolding fileBytes
 bytes-block s g h f e = rw e
 
-module _ (s : List ℕ) (v : Volume) (new : New) (path : List ℕ) (stamp : ℤ) (o : Opens s v) (c : Passed s v new path stamp) where
+module _ (s : List ℕ) (v : Volume) (new : New) (path : List ℕ) (stamp : ℤ) (o : Opens s v) (c : CreatePassed s v new path stamp) where
   -- the geometry before, the blocks of the file, the geometry written, the site and the new entry
   abbrev g : Geometry
   g = v .geometry
@@ -252,8 +253,12 @@ module _ (s : List ℕ) (v : Volume) (new : New) (path : List ℕ) (stamp : ℤ)
       ap (map (seen t (asStored g′))) (only-yes isNamed e (entries v) named) ∙ ap₂ (λ (k : Kept) (ks : List Kept). k ∷ ks) own rest in
       rw all-seen at (seen-order (entries volume) (e ∷ entries v) (added .order) t (asStored g′))
 
-  left : Left t (blockLength g) (keptOf (blockLength g) new path ∷ sight s v)
-  left = record { volume = volume; opens = kept .opens; blocks = block-stored; agree = agree }
+  unusable : Perm (unusables volume) (unusables v)
+  unfolding unusables newEntry
+  unusable = rw (extents-named e (entries v) (kind-run new)) at (extents-order (entries volume) (e ∷ entries v) (added .order))
+
+  left : Left t (blockLength g) (keptOf (blockLength g) new path ∷ sight s v) (unusables v)
+  left = record { volume = volume; opens = kept .opens; blocks = block-stored; agree = agree; unusable = unusable }
 
 -- THE THEOREM
 pub create-left : AfterCreate

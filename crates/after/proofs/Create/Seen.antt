@@ -19,11 +19,12 @@ use Rattle.rules.specs.Paths.{isLive, pathsSound}
 use Rattle.rules.specs.Reading.{fileBytes}
 use Rattle.rules.specs.Writing.{New, newFile, newDirectory, kindOf, bytesOf, created}
 use Rattle.rules.specs.History.{keptOf}
-use Rattle.after.specs.After.{isNamed, seen}
+use Rattle.after.specs.After.{isNamed, seen, extentOf, isUnusable}
 use Rattle.laws.proofs.Lists.Parts.{only-map, map-map}
 use Rattle.laws.proofs.Lists.Perms.{perm-map, perm-only}
 use Rattle.laws.proofs.Entries.Regions.{Within, within-says, SameRegion, same-region, sound-map, sound-perm}
 use Rattle.laws.proofs.Entries.Paths.{SamePath, paths-map, paths-perm}
+use Rattle.after.proofs.Unusable.{extentsOf, extents-map}
 use Rattle.after.proofs.Create.Added.{core}
 use Rattle.after.proofs.Create.Made.{Made}
 
@@ -49,6 +50,9 @@ module _ (es fs : List Entry) (p : Perm (map core es) (map core fs)) where
 
   pub seen-order : (t : List ℕ) (g : Geometry) → Perm (map (seen t g) (only isNamed es)) (map (seen t g) (only isNamed fs))
   seen-order t g = rw (← core-seen t g es, ← core-seen t g fs) (perm-map (seen t g) (perm-only isNamed p))
+
+  pub extents-order : Perm (extentsOf es) (extentsOf fs)
+  extents-order = rw (← extents-map core core-region es, ← extents-map core core-region fs) (perm-map extentOf (perm-only isUnusable p))
 
 -- ---- the new entry
 new-kind : (new : New) → (pick (fileType (kindOf new)) typeFile typeDirectory ≡ kindOf new) × (liveType (kindOf new) ≡ true)

@@ -1,6 +1,6 @@
 -- An accepted reclaim leaves an image that opens, with its live entries as they were.
 use Prim.Native.Nat.{ℕ, _≤_}
-use mathlib.Core.Path.{_≡_, refl, sym, _∙_}
+use mathlib.Core.Path.{_≡_, refl, sym, ap, _∙_}
 use mathlib.Core.Bool.{true, not}
 use mathlib.Core.List.{List}
 use native.Mathlib.Omega.{arith}
@@ -14,7 +14,7 @@ use Rattle.rules.specs.Regions.{regionsSound}
 use Rattle.rules.specs.Refusals.{accepted, Volume, entries, judge}
 use Rattle.rules.specs.Refusals.Laws.{GoodSuper, Opens, judge-opens, opens-judge, opens-super, sizes-super}
 use Rattle.rules.specs.Writing.{reclaimOf, cleared, undeleted, leastEnd, isDeleted}
-use Rattle.after.specs.After.{Left, sight, AfterReclaim}
+use Rattle.after.specs.After.{Left, sight, unusables, AfterReclaim}
 use Rattle.laws.proofs.Lists.Perms.{perm-of}
 use Rattle.laws.proofs.Index.Items.{noFault}
 use Rattle.laws.proofs.Entries.Regions.{sound-geometry, sound-reclaim, sound-restamp, trim-fits}
@@ -26,7 +26,8 @@ use Rattle.laws.proofs.Index.Ends.{ends-good, endsGood}
 use Rattle.laws.proofs.Images.Kept.{Between}
 use Rattle.laws.proofs.Images.Inner.{inner-index, inner-between, inner-opens}
 use Rattle.laws.proofs.Images.Sizes.{restamp-index, restamp-end, block-same, good-shrunk, sizes-long, sizes-between, sizes-ends, sizes-items}
-use Rattle.after.proofs.Reclaim.Clearing.{Cleared, clearedItems, cleared-entries, cleared-sound, clear-all}
+use Rattle.laws.proofs.Images.Clearing.{Cleared, clearedItems, cleared-entries, cleared-sound, clear-all}
+use Rattle.after.proofs.Unusable.{extentsOf, extents-undeleted}
 use Rattle.after.proofs.Reclaim.Keeping.{all-kept}
 
 -- ---- the geometry that is written, and the one that is then read
@@ -88,12 +89,12 @@ module _ (s : List ℕ) (v : Volume) (stamp : ℤ) (o : Opens s v) where
   sound : noFault (v .items)
   sound = ends-good s g (v .items) (o .index-sound) .1
 
-  clears : Cleared begun image h (clearedItems (v .items))
+  clears : Cleared begun image h (clearedItems isDeleted (v .items))
   unfolding image
-  clears = clear-all begun h (v .items) (rw long good) begun-items sound
+  clears = clear-all isDeleted begun h (v .items) (rw long good) begun-items sound
 
   volume : Volume
-  volume = record { geometry = asStored h; items = clearedItems (v .items) }
+  volume = record { geometry = asStored h; items = clearedItems isDeleted (v .items) }
 
   regions : regionsSound (asStored h) (undeleted (entries v)) ≡ true
   unfolding trimmed asStored withStamp
@@ -106,11 +107,11 @@ module _ (s : List ℕ) (v : Volume) (stamp : ℤ) (o : Opens s v) where
   opens : Opens image volume
   unfolding volume
   opens =
-      inner-opens begun image (asStored h) (begun-super .geometry-good) (inner-index begun image h (asStored h) (stored-index h) (clears .inner)) (clearedItems (v .items)) begun-super begun-ends
+      inner-opens begun image (asStored h) (begun-super .geometry-good) (inner-index begun image h (asStored h) (stored-index h) (clears .inner)) (clearedItems isDeleted (v .items)) begun-super begun-ends
       (items-same image image h (asStored h) refl (stored-index h) refl ∙ clears .items)
-      (cleared-sound (v .items) sound)
-      (rw (cleared-entries (v .items)) regions)
-      (rw (cleared-entries (v .items)) (paths-reclaim (entries v) (o .paths-sound)))
+      (cleared-sound isDeleted (v .items) sound)
+      (rw (cleared-entries isDeleted (v .items)) regions)
+      (rw (cleared-entries isDeleted (v .items)) (paths-reclaim (entries v) (o .paths-sound)))
 
   -- ---- what is seen of it
   between : Between s image g
@@ -125,11 +126,15 @@ module _ (s : List ℕ) (v : Volume) (stamp : ℤ) (o : Opens s v) where
   keeps : sight image volume ≡ only (λ k. k .live) (sight s v)
   unfolding sight volume
   keeps =
-      rw (cleared-entries (v .items)) (all-kept s image g (asStored h) (o .geometry-good) between block (entries v) (bare-entries s v o) (o .regions-sound))
+      rw (cleared-entries isDeleted (v .items)) (all-kept s image g (asStored h) (o .geometry-good) between block (entries v) (bare-entries s v o) (o .regions-sound))
 
-  left : Left image (blockLength g) (only (λ k. k .live) (sight s v))
+  unusable : unusables volume ≡ unusables v
+  unfolding unusables volume
+  unusable = ap extentsOf (cleared-entries isDeleted (v .items)) ∙ extents-undeleted (entries v)
+
+  left : Left image (blockLength g) (only (λ k. k .live) (sight s v)) (unusables v)
   unfolding volume
-  left = record { volume = volume; opens = opens-judge image volume opens; blocks = block; agree = perm-of _ _ keeps }
+  left = record { volume = volume; opens = opens-judge image volume opens; blocks = block; agree = perm-of _ _ keeps; unusable = perm-of _ _ unusable }
 
 pub reclaim-left : AfterReclaim
 unfolding image begun

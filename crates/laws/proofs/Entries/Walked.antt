@@ -1,15 +1,17 @@
 -- What is known of every entry of an image that opens. Assumes nothing.
-use mathlib.Core.Path.{_≡_, sym}
+use mathlib.Core.Path.{_≡_, sym, _∙_}
 use mathlib.Core.Bool.{true, false}
 use mathlib.Core.List.{List}
 use Prim.Native.Nat.{ℕ}
+use borrow.Author.Tests.{eq-eqb}
 use Rattle.rules.specs.Lists.{All}
 use Rattle.rules.specs.Lists.Laws.{clash}
 use Rattle.rules.specs.Names.{pathGood}
-use Rattle.rules.specs.Index.{Entry, runType, directoryType, fileType, typeUnusable}
+use Rattle.rules.specs.Index.{Entry, runType, fileType, typeUnusable}
 use Rattle.rules.specs.Refusals.{Volume, entries}
 use Rattle.rules.specs.Refusals.Laws.{Opens}
 use Rattle.laws.proofs.Index.Entries.{every-entry, run-path, run-bare, unusable-kind, unusable-bare}
+use Rattle.laws.proofs.Entries.EntryKinds.{run-usable}
 use Rattle.laws.proofs.Entries.Regions.{Settled}
 
 -- only a file has bytes
@@ -20,9 +22,8 @@ Bare e = fileType (e .kind) ≡ false → e .length ≡ 0
 abbrev pub Named : Entry → Type 0
 Named e = runType (e .kind) ≡ true → pathGood (e .path) ≡ true
 
-unusable-unnamed : (t : ℕ) → t ≡ typeUnusable → runType t ≡ true → {X : Type 0} → X
-unfolding runType directoryType fileType
-unusable-unnamed t e r = clash (sym (rw e at r))
+unusable-named : (e : Entry) → e .kind ≡ typeUnusable → Named e
+unusable-named e u r = clash (sym (eq-eqb (e .kind) typeUnusable u) ∙ run-usable (e .kind) r)
 
 module _ (s : List ℕ) (v : Volume) (o : Opens s v) where
   -- one that is neither a file nor unusable has no region
@@ -37,4 +38,4 @@ module _ (s : List ℕ) (v : Volume) (o : Opens s v) where
   pub named-entries : All Named (entries v)
   named-entries =
       rw (o .items-are)
-      (every-entry Named (λ left k a e h r. run-path left k a e h) (λ k a e h r. unusable-unnamed (e .kind) (unusable-kind k a e h) r) s (v .geometry))
+      (every-entry Named (λ left k a e h r. run-path left k a e h) (λ k a e h. unusable-named e (unusable-kind k a e h)) s (v .geometry))

@@ -1,4 +1,4 @@
--- The items of an image after each write to its index: slots written anew, a run deleted, the index grown by a run.
+-- The items of an image after each write to its index: slots written anew, a run of another type and stamp, the index grown by a run.
 use Prim.Native.Nat.{ℕ, _+_, _-_, _*_, _≤_}
 use mathlib.Core.Path.{_≡_, refl, sym, ap, ap₂, subst, _∙_}
 use mathlib.Core.Bool.{true}
@@ -8,10 +8,10 @@ use lib.ListN.{length, drop, length-drop}
 use lib.IntN.{ℤ}
 use Rattle.rules.specs.Fields.{splice}
 use Rattle.rules.specs.SuperBlock.{Geometry}
-use Rattle.rules.specs.SuperBlock.Laws.{GoodGeometry}
-use Rattle.rules.specs.Index.{Entry, Item, entry, itemsOf, innerSlots, slotAt, slotBytes, unusedBytes, runBytes, runType}
+use Rattle.rules.specs.SuperBlock.Laws.{GoodGeometry, storedStamp}
+use Rattle.rules.specs.Index.{Entry, Item, entry, itemsOf, innerSlots, slotAt, slotBytes, unusedBytes, runBytes, runType, fileType, retyped}
 use Rattle.rules.specs.Index.Walk.{walkAll}
-use Rattle.rules.specs.Writing.{deleted, itemSlot}
+use Rattle.rules.specs.Writing.{itemSlot}
 use Rattle.laws.proofs.Index.ListFacts.{drop-splice, drop-splice-part}
 use Rattle.laws.proofs.Index.Items.{slotsIn, slotsIn-append, noFault}
 use Rattle.laws.proofs.Index.Walks.{slots-all, walk-replace}
@@ -20,10 +20,10 @@ use Rattle.laws.proofs.Index.Places.{slot-there, place-within}
 use Rattle.laws.proofs.Index.Unused.{unusedFrom, unusedFrom-slots, unusedFrom-sound, walk-unusedBytes, length-unusedBytes}
 use Rattle.laws.proofs.Index.Shift.{shiftItem}
 use Rattle.laws.proofs.Index.Runs.{Storable, stored, length-runBytes, walk-runBytes}
-use Rattle.laws.proofs.Index.Deleted.{deletedEntry, deleted-part}
-use Rattle.laws.proofs.Index.Writes.{one-sound, one-slots, walk-deleted, walk-grown}
+use Rattle.laws.proofs.Index.Retyped.{retypedEntry, retyped-part}
+use Rattle.laws.proofs.Index.Writes.{one-sound, one-slots, walk-retyped, walk-grown}
 use Rattle.laws.proofs.Images.Areas.{slot-on, inner-end}
-use Rattle.laws.proofs.Images.Inner.{Inner, inner-deleted, inner-splice}
+use Rattle.laws.proofs.Images.Inner.{Inner, inner-retyped, inner-splice}
 
 -- after a write that keeps the length
 items-written : (s : List ℕ) (g : Geometry) (t : List ℕ) → length t ≡ length s → itemsOf t g ≡ walkAll (innerSlots g) 1 (drop (slotAt s g 1) t)
@@ -101,26 +101,27 @@ module _ (s : List ℕ) (g : Geometry) (good : GoodGeometry (length s) g) where
           ∙ replaced-items pre (entry e ∷ []) post here sound (unusedBytes (e .slots)) unused-full (rw unused-walk (unusedFrom-sound (e .slot) (e .slots)))
           ∙ rw unused-walk
 
-    -- ---- the run of a live entry deleted
-    module _ (stamp : ℤ) where
+    -- ---- its run of another type and stamp
+    module _ (kind : ℕ) (stamp : ℤ) where
       at-entry : slotAt s g (e .slot) ≡ slotAt s g 1 + slotBytes * slotsIn pre
       at-entry = ap (slotAt s g) entry-slot ∙ slot-on s g (slotsIn pre)
 
       behind : slotsIn pre + 1 ≤ innerSlots g
       behind = omega (arith, place-within (innerSlots g) 1 (drop (slotAt s g 1) s) pre (entry e) post there)
 
-      pub deleted-inner : Inner s (deleted s (slotAt s g (e .slot)) e stamp) g
-      deleted-inner = inner-deleted s g (slotAt s g (e .slot)) (omega (arith, at-entry)) e stamp (omega (arith, at-entry, inner-end s g good, behind))
+      pub retyped-inner : Inner s (retyped s (slotAt s g (e .slot)) kind stamp) g
+      retyped-inner = inner-retyped s g (slotAt s g (e .slot)) (omega (arith, at-entry)) kind stamp (omega (arith, at-entry, inner-end s g good, behind))
 
-      pub deleted-items : runType (e .kind) ≡ true → itemsOf (deleted s (slotAt s g (e .slot)) e stamp) g ≡ pre ++ (entry (deletedEntry e stamp) ∷ post)
-      deleted-items r =
+      pub retyped-items : runType (e .kind) ≡ true → runType kind ≡ true → fileType kind ≡ fileType (e .kind)
+          → itemsOf (retyped s (slotAt s g (e .slot)) kind stamp) g ≡ pre ++ (entry (retypedEntry kind (storedStamp stamp) e) ∷ post)
+      retyped-items old new alike =
           let n : ℕ = slotAt s g 1 in
           let at : ℕ = slotBytes * slotsIn pre in
-          let in-place : drop n (deleted s (slotAt s g (e .slot)) e stamp) ≡ deleted (drop n s) at e stamp =
-          rw at-entry (deleted-part n s at e stamp (omega (arith, identifier-at s, inner-end s g good, behind))) in
-          items-written s g _ (deleted-inner .long)
+          let in-place : drop n (retyped s (slotAt s g (e .slot)) kind stamp) ≡ retyped (drop n s) at kind stamp =
+          rw at-entry (retyped-part n s at kind stamp (omega (arith, identifier-at s, inner-end s g good, behind))) in
+          items-written s g _ (retyped-inner .long)
           ∙ ap (walkAll (innerSlots g) 1) in-place
-          ∙ walk-deleted (innerSlots g) 1 (drop n s) e stamp pre post there inner-room r
+          ∙ walk-retyped (innerSlots g) 1 (drop n s) e kind stamp pre post there inner-room old new alike
 
 -- ---- the index grown by a run: h has room for it in front of the slots of g, which are numbered anew
 module _ (s : List ℕ) (g h : Geometry) (low : 128 ≤ g .indexBytes) (fits : h .indexBytes ≤ length s) (e : Entry) (k : Storable e) (first : e .slot ≡ 1) (grown : h .indexBytes ≡ g .indexBytes + slotBytes * e .slots) where

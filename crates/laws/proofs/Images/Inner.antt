@@ -10,16 +10,15 @@ use lib.IntN.{ℤ}
 use Rattle.rules.specs.Fields.{splice}
 use Rattle.rules.specs.SuperBlock.{Geometry}
 use Rattle.rules.specs.SuperBlock.Laws.{GoodGeometry}
-use Rattle.rules.specs.Index.{Entry, Item, itemsOf, entriesOf, identifierAt, slotAt, slotBytes}
+use Rattle.rules.specs.Index.{Item, itemsOf, entriesOf, identifierAt, slotAt, slotBytes, retyped}
 use Rattle.rules.specs.Regions.{regionsSound}
 use Rattle.rules.specs.Paths.{pathsSound}
 use Rattle.rules.specs.Refusals.Laws.{GoodSuper, Opens, super-opens}
-use Rattle.rules.specs.Writing.{deleted}
 use Rattle.laws.proofs.Lists.Spans.{SameBut, but-splice, but-wider, but-then, but-byte}
 use Rattle.laws.proofs.Index.Items.{noFault}
 use Rattle.laws.proofs.Index.Slots.{slot-at, slot-same, identifier-at}
 use Rattle.laws.proofs.Index.Ends.{endsGood, good-ends, ends-same}
-use Rattle.laws.proofs.Index.Deleted.{length-deleted, take-deleted, drop-deleted}
+use Rattle.laws.proofs.Index.Retyped.{retyped-written}
 use Rattle.laws.proofs.Images.Kept.{Between, super-kept, between-kept}
 use Rattle.laws.proofs.Images.Areas.{index-start}
 
@@ -41,14 +40,8 @@ module _ (s : List ℕ) (g : Geometry) (at : ℕ) (low : slotAt s g 1 ≤ at) wh
   pub inner-splice : (bs : List ℕ) → at + length bs ≤ identifierAt s → Inner s (splice s at bs) g
   inner-splice bs high = but-wider (but-splice s at bs (omega (arith, identifier-at s))) (slotAt s g 1) (identifierAt s) low high
 
-  pub inner-deleted : (e : Entry) (stamp : ℤ) → at + 10 ≤ identifierAt s → Inner s (deleted s at e stamp) g
-  inner-deleted e stamp high =
-      let room : at + 10 ≤ length s = omega (arith, identifier-at s) in
-      record {
-        long = length-deleted s at e stamp room;
-        front = take-deleted s at e stamp room (slotAt s g 1) low;
-        back = drop-deleted s at e stamp room (identifierAt s) high;
-      }
+  pub inner-retyped : (kind : ℕ) (stamp : ℤ) → at + 10 ≤ identifierAt s → Inner s (retyped s at kind stamp) g
+  inner-retyped kind stamp high = but-wider (retyped-written s at kind stamp (omega (arith, identifier-at s))) (slotAt s g 1) (identifierAt s) low high
 
 -- ---- what it keeps
 module _ (s t : List ℕ) (g : Geometry) (good : GoodGeometry (length s) g) (i : Inner s t g) where

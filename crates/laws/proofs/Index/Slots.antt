@@ -1,10 +1,11 @@
 -- Where slots lie, and that the items are what stands between the start marker and the volume identifier. Assumes nothing.
 -- With Ends.antt and the laws of one slot in this folder: what the layout says, opened here and used by its laws elsewhere.
 use Prim.Native.Nat.{ℕ, _+_, _-_, _*_, _/_}
-use mathlib.Core.Path.{_≡_, refl, _∙_}
+use mathlib.Core.Path.{_≡_, refl, sym, ap, _∙_}
 use mathlib.Core.List.{List, []}
 use native.Mathlib.Omega.{arith}
 use lib.ListN.{length, drop}
+use lib.Seq.{drop-drop}
 use Rattle.rules.specs.SuperBlock.{Geometry}
 use Rattle.rules.specs.Index.{itemsOf, innerSlots, slotAt, slotBytes, identifierAt}
 use Rattle.rules.specs.Index.Walk.{walkAll, walk-none}
@@ -33,12 +34,23 @@ inner-slots g = refl
 pub no-items : (s : List ℕ) (g : Geometry) → g .indexBytes ≡ 128 → itemsOf s g ≡ []
 no-items s g i = let z : innerSlots g ≡ 0 = omega (arith, inner-slots g) in items-walk s g ∙ rw z (walk-none 1 _)
 
--- a place depends on the image's length and the index area's size, and items on the bytes from slot 1 on
+-- items are what is read from slot 1 on, so of the index area
+pub items-from : (s t : List ℕ) (g h : Geometry) → h .indexBytes ≡ g .indexBytes → drop (slotAt t h 1) t ≡ drop (slotAt s g 1) s → itemsOf t h ≡ itemsOf s g
+unfolding itemsOf innerSlots
+items-from s t g h index same = rw (same, index)
+
+pub items-area : (s t : List ℕ) (g : Geometry) → drop (slotAt t g 0) t ≡ drop (slotAt s g 0) s → itemsOf t g ≡ itemsOf s g
+items-area s t g same =
+    let next : (x : List ℕ) → slotAt x g 1 ≡ slotAt x g 0 + slotBytes = λ x. omega (arith, slot-at x g 0, slot-at x g 1) in
+    let on : (x : List ℕ) → drop (slotAt x g 1) x ≡ drop slotBytes (drop (slotAt x g 0) x) =
+    λ x. ap (λ (n : ℕ). drop n x) (next x) ∙ sym (drop-drop slotBytes (slotAt x g 0) x) in
+    items-from s t g g refl (on t ∙ ap (drop slotBytes) same ∙ sym (on s))
+
+-- a place depends on the image's length and the index area's size
 module _ (s t : List ℕ) (g h : Geometry) (long : length t ≡ length s) (index : h .indexBytes ≡ g .indexBytes) where
   pub slot-same : (k : ℕ) → slotAt t h k ≡ slotAt s g k
   unfolding slotAt
   slot-same k = rw (long, index)
 
   pub items-same : drop (slotAt s g 1) t ≡ drop (slotAt s g 1) s → itemsOf t h ≡ itemsOf s g
-  unfolding itemsOf innerSlots
-  items-same same = rw (slot-same 1, same, index)
+  items-same same = items-from s t g h index (rw (slot-same 1) same)
