@@ -60,6 +60,10 @@ pub record Geometry : Type 0 where
   pub reserved : ℕ  -- blocks, the super-block's own among them
   pub blockField : ℕ  -- 01's b
 
+-- a volume of a version up to 0x10 may be written, a later one only read
+unfoldable pub writable : Geometry → Bool
+writable g = leb (g .version) version10
+
 unfoldable pub geometryOf : List ℕ → Geometry
 geometryOf s = record {
   stamp = stampIn s superBlockAt;
@@ -87,8 +91,11 @@ unfoldable pub dataEnd : Geometry → ℕ
 dataEnd g = g .reserved + g .dataBlocks
 
 -- an index area has 128 to 262,144 bytes, in slots of 64
+abbrev pub mostIndexBytes : ℕ
+mostIndexBytes = 262_144
+
 unfoldable pub indexGood : ℕ → Bool
-indexGood i = leb 128 i && leb i 262_144 && eqb (i % 64) 0
+indexGood i = leb 128 i && leb i mostIndexBytes && eqb (i % 64) 0
 
 -- a good geometry of an image of n bytes
 unfoldable pub geometryGood : ℕ → Geometry → Bool
