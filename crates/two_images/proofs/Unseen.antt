@@ -25,7 +25,7 @@ use Rattle.rules.specs.Refusals.Laws.{Opens, judge-opens}
 use Rattle.rules.specs.History.{SameAnswers}
 use Rattle.laws.proofs.Lists.Every.{not-both, all-weaken, all-and, all-join, all-at, pairs-split, only-holds}
 use Rattle.laws.proofs.Entries.Regions.{sound-says, FileRegion, file-region, region-bytes}
-use Rattle.laws.proofs.Index.ListFacts.{drop-splice-after}
+use Rattle.laws.proofs.Lists.Spans.{drop-splice-after}
 use Rattle.two_images.proofs.Reopens.{reopens}
 use Rattle.two_images.proofs.TwoImages.{liveFile, SameBlocks, two-images}
 
