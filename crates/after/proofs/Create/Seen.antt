@@ -18,7 +18,7 @@ use Rattle.laws.proofs.Lists.Parts.{only-map, map-map}
 use Rattle.laws.proofs.Lists.Perms.{perm-map, perm-only}
 use Rattle.laws.proofs.Entries.Regions.{SameRegion, same-region, sound-map, sound-perm}
 use Rattle.laws.proofs.Entries.Paths.{SamePath, paths-map, paths-perm}
-use Rattle.after.proofs.Unusable.{extentsOf, extents-map}
+use Rattle.after.proofs.Sights.{extentsOf, extents-map}
 use Rattle.after.proofs.Create.Added.{core}
 use Rattle.after.proofs.Create.Made.{Made}
 

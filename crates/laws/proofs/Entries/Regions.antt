@@ -12,6 +12,7 @@ use borrow.Author.Tests.{leb-true, ltb-true, le-leb, lt-ltb, eqb-true, eq-eqb}
 use Rattle.rules.specs.Lists.{pick, all, everyTwo, All, Pairs, Perm}
 use Rattle.rules.specs.Lists.Laws.{and-true, and-both, or-right, pick-true, pick-false}
 use Rattle.rules.specs.SuperBlock.{Geometry, blockLength, dataEnd, extendData, trimData, restamp, withData, withStamp}
+use Rattle.rules.specs.SuperBlock.Laws.{asStored}
 use Rattle.rules.specs.Index.{Entry, fileType, typeFile, typeDirectory, typeUnusable}
 use Rattle.rules.specs.Regions.{holds, blocksOf, withinData, fileRegionGood, regionGood, apart, regionsSound, busy, runFree}
 use Rattle.rules.specs.Regions.Laws.{holds-says, apart-back, apart-before, apart-behind, none-apart, run-says}
@@ -175,7 +176,7 @@ pub data Fresh (g : Geometry) (es : List Entry) (e : Entry) : Type 0 where
   run : (k : ℕ) → e .kind ≡ typeFile → g .reserved ≤ e .start → e .end ≡ e .start + k → 0 < k → runFree es (e .start) k ≡ true → e .end ≤ dataEnd g
       → e .length ≤ k * blockLength g → Fresh g es e
 
-kind-file : (t : ℕ) → t ≡ typeFile → fileType t ≡ true
+pub kind-file : (t : ℕ) → t ≡ typeFile → fileType t ≡ true
 unfolding fileType
 kind-file t e = rw e
 
@@ -336,3 +337,16 @@ unfolding restamp withStamp
 sound-restamp old new t es =
     pick-both (λ g. regionsSound g es ≡ regionsSound new es) _ new (withStamp new t) refl (sound-geometry (withStamp new t) new es refl refl refl)
 
+-- and neither does storing it
+pub sound-stored : (g : Geometry) (es : List Entry) → regionsSound (asStored g) es ≡ regionsSound g es
+unfolding asStored withStamp
+sound-stored g es = sound-geometry (asStored g) g es refl refl refl
+
+pub region-stored : (g : Geometry) (e : Entry) → regionGood (asStored g) e ≡ regionGood g e
+unfolding asStored withStamp regionGood fileRegionGood withinData dataEnd blockLength
+region-stored g e = refl
+
+pub placed-stored : (g : Geometry) (e : Entry) → Regionless e ⊎ Within g e → Regionless e ⊎ Within (asStored g) e
+unfolding asStored withStamp dataEnd
+placed-stored g e (inl r) = inl r
+placed-stored g e (inr w) = inr (record { low = w .low; some = w .some; high = w .high })
