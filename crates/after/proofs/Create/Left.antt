@@ -19,7 +19,7 @@ use Rattle.rules.specs.Paths.{pathsSound}
 use Rattle.rules.specs.Refusals.{accepted, Volume, entries, judge}
 use Rattle.rules.specs.Refusals.Laws.{GoodSuper, Opens, judge-opens, opens-judge, opens-super, sizes-super}
 use Rattle.rules.specs.Reading.{fileBytes}
-use Rattle.rules.specs.Writing.{New, bytesOf, newEntry, putMarker, created}
+use Rattle.rules.specs.Writing.{New, bytesOf, newEntry, putMarker, created, newSlots, newBlocks, Site, siteOf}
 use Rattle.rules.specs.History.{Kept, keptOf}
 use Rattle.after.specs.After.{isNamed, seen, sight, unusables, Left, AfterCreate}
 use Rattle.laws.proofs.Lists.Every.{all-weaken, all-and, all-only, map-ext}
@@ -38,7 +38,7 @@ use Rattle.laws.proofs.Images.Region.{RegionKept, blocks-written, others-bytes,
 use Rattle.laws.proofs.Images.Inner.{inner-index, inner-between, inner-opens}
 use Rattle.laws.proofs.Images.Sizes.{block-same, sizes-long, sizes-between, sizes-drop, sizes-ends}
 use Rattle.laws.proofs.Images.Marker.{marker-written, marker-good}
-use Rattle.laws.proofs.Images.Placing.{newBlocks, newSlots, newGeometry, Placed, run-place, unused-room, grown-index, Grown, place-grown, Sizes, new-sizes}
+use Rattle.laws.proofs.Images.Placing.{newGeometry, Placed, run-place, unused-room, grown-index, Grown, place-grown, Sizes, new-sizes}
 use Rattle.after.proofs.Sights.{seen-same, extents-named}
 use Rattle.after.proofs.Create.Passed.{CreatePassed, create-passed}
 use Rattle.after.proofs.Create.Added.{Added, unused-added, front-added}
@@ -51,7 +51,7 @@ unfolding fileBytes
 bytes-block s g h f e = rw e
 
 module _ (s : List ℕ) (v : Volume) (new : New) (path : List ℕ) (stamp : ℤ) (o : Opens s v) (c : CreatePassed s v new path stamp) where
-  -- the geometry before, the blocks of the file, the geometry written, the new entry
+  -- the geometry before, the blocks of the file, the geometry written, the site and the new entry
   abbrev g : Geometry
   g = v .geometry
 
@@ -61,8 +61,11 @@ module _ (s : List ℕ) (v : Volume) (new : New) (path : List ℕ) (stamp : ℤ)
   abbrev g′ : Geometry
   g′ = newGeometry g (c .place .geometry) (c .start + blocks) stamp
 
+  abbrev site : Site
+  site = siteOf v new path stamp (c .place) (c .start)
+
   abbrev e : Entry
-  e = newEntry new path stamp (c .place .slot) (c .start) blocks
+  e = newEntry site new path stamp
 
   -- ---- where all goes
   placed : Placed (length s) v (newSlots new path) (c .place)
@@ -84,11 +87,11 @@ module _ (s : List ℕ) (v : Volume) (new : New) (path : List ℕ) (stamp : ℤ)
 
   fresh : Fresh g′ (entries v) e
   fresh =
-      new-fresh (length s) (c .place .geometry) g′ (entries v) new path stamp (c .place .slot) (c .start) blocks needed (c .file-placed)
+      new-fresh (length s) (c .place .geometry) site (entries v) new path stamp blocks refl needed (c .file-placed)
       (sizes .same .reserved-same ∙ sym (grown .same .reserved-same)) (sizes .covers)
 
   made : Made new path (c .place .slot) (c .start) blocks e
-  made = new-made new path stamp (c .place .slot) (c .start) blocks
+  made = new-made v new path stamp (c .place) (c .start)
 
   storable : Storable e
   storable =
@@ -176,7 +179,7 @@ module _ (s : List ℕ) (v : Volume) (new : New) (path : List ℕ) (stamp : ℤ)
 
   -- ---- the blocks
   abbrev t : List ℕ
-  t = created s g g′ e (bytesOf new)
+  t = created s site new path stamp
 
   block-stored : blockLength (asStored g′) ≡ blockLength g
   block-stored = stored-block g′ ∙ block-kept
@@ -185,7 +188,7 @@ module _ (s : List ℕ) (v : Volume) (new : New) (path : List ℕ) (stamp : ℤ)
   bytes-room = bytes-fit (length s) g′ (sizes .good) (o .length-high) (entries v) new path (c .place .slot) (c .start) blocks e made (sizes .covers) needed fresh
 
   kept : RegionKept indexed t volume e
-  unfolding created blocksOf
+  unfolding created newEntry blocksOf
   kept =
       rw (← stored-block g′)
       (blocks-written indexed volume indexed-opens e (placed-stored g′ e (fresh-region g′ (entries v) e fresh)) (padded (bytesOf new) (blocksOf e * blockLength (asStored g′)))

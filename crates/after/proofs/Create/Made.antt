@@ -8,6 +8,7 @@ use native.Mathlib.Omega.{arith}
 use native.Mathlib.Nat.{add-mul, mul-le-mul-right, le-mul-of-pos-right}
 use lib.ListN.{length}
 use lib.IntN.{ℤ}
+use Rattle.rules.specs.Refusals.{Volume}
 use Rattle.rules.specs.Lists.Laws.{clash}
 use Rattle.rules.specs.SuperBlock.{Geometry, blockLength, dataEnd}
 use Rattle.rules.specs.SuperBlock.Laws.{GoodGeometry, block-low, areas-fit}
@@ -15,10 +16,9 @@ use Rattle.rules.specs.Names.{pathGood}
 use Rattle.rules.specs.Index.{Entry, fileType, directoryType, runType}
 use Rattle.rules.specs.Regions.{blocksOf, blocksNeeded}
 use Rattle.rules.specs.Regions.Laws.{needed-covers}
-use Rattle.rules.specs.Writing.{New, newFile, newDirectory, kindOf, bytesOf, newEntry}
+use Rattle.rules.specs.Writing.{New, newFile, newDirectory, kindOf, bytesOf, newEntry, newSlots, newBlocks, Place, siteOf}
 use Rattle.laws.proofs.Entries.Regions.{Regionless, Within, kind-file, Fresh, directory, empty, run}
 use Rattle.laws.proofs.Index.Runs.{Storable}
-use Rattle.laws.proofs.Images.Placing.{newSlots}
 
 -- ---- its fields
 pub record Made (new : New) (path : List ℕ) (slot start blocks : ℕ) (e : Entry) : Type 0 where
@@ -30,9 +30,10 @@ pub record Made (new : New) (path : List ℕ) (slot start blocks : ℕ) (e : Ent
   pub length-is : e .length ≡ length (bytesOf new)
   pub path-is : e .path ≡ path
 
-pub new-made : (new : New) (path : List ℕ) (stamp : ℤ) (slot start blocks : ℕ) → Made new path slot start blocks (newEntry new path stamp slot start blocks)
+pub new-made : (v : Volume) (new : New) (path : List ℕ) (stamp : ℤ) (place : Place) (start : ℕ)
+    → Made new path (place .slot) start (newBlocks (v .geometry) new) (newEntry (siteOf v new path stamp place start) new path stamp)
 unfolding newEntry
-new-made new path stamp slot start blocks =
+new-made v new path stamp place start =
     record { kind-is = refl; slot-is = refl; slots-is = refl; start-is = refl; end-is = refl; length-is = refl; path-is = refl }
 
 -- ---- its kind

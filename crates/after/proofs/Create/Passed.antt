@@ -1,5 +1,5 @@
 -- What an accepted create has passed. Assumes nothing.
-use Prim.Native.Nat.{ℕ, _+_}
+use Prim.Native.Nat.{ℕ}
 use mathlib.Core.Path.{_≡_, refl, sym}
 use mathlib.Core.Bool.{true, not}
 use mathlib.Core.List.{List}
@@ -12,9 +12,8 @@ use Rattle.rules.specs.Lists.Laws.{clash}
 use Rattle.rules.specs.Names.{newPathGood, leading}
 use Rattle.rules.specs.Paths.{lookup}
 use Rattle.rules.specs.Refusals.{accepted, Volume, entries, judge}
-use Rattle.rules.specs.Writing.{Written, New, bytesOf, nearestLive, Place, placeRun, placeFile, newEntry, created, createOf}
+use Rattle.rules.specs.Writing.{Written, New, nearestLive, newSlots, newBlocks, Place, placeRun, placeFile, siteOf, created, createOf}
 use Rattle.laws.proofs.Images.Accepted.{passed-need, passed-found, passed-writable, passed-done}
-use Rattle.laws.proofs.Images.Placing.{newBlocks, newSlots, newGeometry}
 
 not-some : {A : Type 0} (o : Option A) → not (isSome o) ≡ true → o ≡ none
 unfolding isSome
@@ -29,14 +28,11 @@ pub record CreatePassed (s : List ℕ) (v : Volume) (new : New) (path : List ℕ
   pub nearest : nearestLive (entries v) (leading path) ≡ true
   pub run-placed : placeRun (length s) v (newSlots new path) ≡ some place
   pub file-placed : placeFile (length s) (place .geometry) (entries v) (newBlocks (v .geometry) new) ≡ some start
-  pub image-is :
-      createOf s new path stamp .image
-      ≡ created s (v .geometry) (newGeometry (v .geometry) (place .geometry) (start + newBlocks (v .geometry) new) stamp)
-      (newEntry new path stamp (place .slot) start (newBlocks (v .geometry) new)) (bytesOf new)
+  pub image-is : createOf s new path stamp .image ≡ created s (siteOf v new path stamp place start) new path stamp
 
 pub create-passed : (s : List ℕ) (v : Volume) (new : New) (path : List ℕ) (stamp : ℤ) → judge s ≡ accepted v → createOf s new path stamp .refusal ≡ 0
     → CreatePassed s v new path stamp
-unfolding createOf newEntry
+unfolding createOf
 create-passed s v new path stamp o z =
     let w : Written = createOf s new path stamp in
     let p₁ = passed-need s w z (newPathGood path) 10 _ (omega arith) (passed-writable s v _ o z) in

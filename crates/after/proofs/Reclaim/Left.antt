@@ -8,7 +8,7 @@ use lib.ListN.{length}
 use lib.IntN.{ℤ}
 use Rattle.rules.specs.Lists.{only}
 use Rattle.rules.specs.SuperBlock.{Geometry, blockLength, dataEnd, trimData, withData, restamp, putSizes}
-use Rattle.rules.specs.SuperBlock.Laws.{GoodGeometry, SameBlocks, same-self, same-trim, same-restamp, asStored, stored-block, stored-index}
+use Rattle.rules.specs.SuperBlock.Laws.{GoodGeometry, SameSealed, same-self, same-trim, same-restamp, asStored, stored-block, stored-index}
 use Rattle.rules.specs.Index.{Entry, itemsOf}
 use Rattle.rules.specs.Regions.{regionsSound}
 use Rattle.rules.specs.Refusals.{accepted, Volume, entries, judge}
@@ -47,7 +47,7 @@ module _ (s : List ℕ) (v : Volume) (stamp : ℤ) (o : Opens s v) where
   abbrev h : Geometry
   h = trimmed v stamp
 
-  same : SameBlocks h g
+  same : SameSealed h g
   unfolding trimmed
   same = same-restamp (trimData g (leastEnd (undeleted (entries v)))) g (same-trim g g (same-self g) (leastEnd (undeleted (entries v)))) g stamp
 

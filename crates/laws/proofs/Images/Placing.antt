@@ -12,14 +12,13 @@ use lib.IntN.{ℤ}
 use borrow.Author.Tests.{leb-true}
 use Rattle.rules.specs.Lists.{pick}
 use Rattle.rules.specs.Lists.Laws.{and-true}
-use Rattle.rules.specs.SuperBlock.{Geometry, blockLength, ceilingBlock, dataEnd, growIndex, withIndex, withData, extendData, restamp}
-use Rattle.rules.specs.SuperBlock.Laws.{GoodGeometry, SameBlocks, same-self, same-grow, same-extend, same-restamp}
-use Rattle.rules.specs.Index.{Item, innerSlots, slotAt, continuing, slotBytes}
+use Rattle.rules.specs.SuperBlock.{Geometry, ceilingBlock, dataEnd, growIndex, withIndex, withData, extendData, restamp}
+use Rattle.rules.specs.SuperBlock.Laws.{GoodGeometry, SameSealed, same-self, same-grow, same-extend, same-restamp}
+use Rattle.rules.specs.Index.{Item, innerSlots, slotAt, slotBytes}
 use Rattle.rules.specs.Index.Walk.{walkAll}
-use Rattle.rules.specs.Regions.{blocksNeeded}
 use Rattle.rules.specs.Refusals.{Volume}
 use Rattle.rules.specs.Refusals.Laws.{Opens}
-use Rattle.rules.specs.Writing.{New, kindOf, bytesOf, lowestUnused, Place, mayGrow, grownPlace, placeFrom, placeRun}
+use Rattle.rules.specs.Writing.{lowestUnused, Place, mayGrow, grownPlace, placeFrom, placeRun}
 use Rattle.laws.proofs.Lists.Parts.{some-same, none-some}
 use Rattle.laws.proofs.Index.Items.{slotsIn, slotsIn-append, noFault}
 use Rattle.laws.proofs.Index.Walks.{slots-all}
@@ -30,13 +29,6 @@ use Rattle.laws.proofs.Index.Ends.{ends-good}
 use Rattle.laws.proofs.Images.Sizes.{restamp-index, restamp-end, ceiling-same, good-sizes}
 
 -- ---- what is placed
--- the blocks of the file, and the slots of the run
-abbrev pub newBlocks : Geometry → New → ℕ
-newBlocks g new = blocksNeeded (blockLength g) (length (bytesOf new))
-
-abbrev pub newSlots : New → List ℕ → ℕ
-newSlots new path = 1 + continuing (kindOf new) (length path)
-
 -- the geometry after it, h the one after any growth of the index
 abbrev pub newGeometry : Geometry → Geometry → ℕ → ℤ → Geometry
 newGeometry g h end stamp = restamp g (extendData h end) stamp
@@ -118,7 +110,7 @@ module _ (s : List ℕ) (v : Volume) (o : Opens s v) where
 -- h is good in an image of n bytes, and of the blocks and data area of g
 pub record Grown (n : ℕ) (g h : Geometry) : Type 0 where
   pub good : GoodGeometry n h
-  pub same : SameBlocks h g
+  pub same : SameSealed h g
   pub data-same : dataEnd h ≡ dataEnd g
 
 grown-end : (g : Geometry) (k : ℕ) → dataEnd (growIndex g k) ≡ dataEnd g
@@ -131,7 +123,7 @@ place-grown n v slots p o (inl a) = rw (a .geometry-is) (record { good = o; same
 place-grown n v slots p o (inr a) =
     let g = v .geometry in
     let i : p .geometry .indexBytes ≡ g .indexBytes + slotBytes * slots = ap (λ (h : Geometry). h .indexBytes) (a .geometry-is) ∙ grown-index g (slotBytes * slots) in
-    let same : SameBlocks (p .geometry) g = rw (a .geometry-is) (same-grow g g (same-self g) (slotBytes * slots)) in
+    let same : SameSealed (p .geometry) g = rw (a .geometry-is) (same-grow g g (same-self g) (slotBytes * slots)) in
     record {
       good = good-sizes n g (p .geometry) o same (omega (arith, o .index-low)) (a .index-high) (omega (arith, o .index-slots)) (a .data-fits);
       same = same;
@@ -142,7 +134,7 @@ place-grown n v slots p o (inr a) =
 -- w is good, of the blocks of g and the index of h, and its data area holds that of g and the blocks up to `end`
 pub record Sizes (n : ℕ) (g h : Geometry) (end : ℕ) (w : Geometry) : Type 0 where
   pub good : GoodGeometry n w
-  pub same : SameBlocks w g
+  pub same : SameSealed w g
   pub index-same : w .indexBytes ≡ h .indexBytes
   pub keeps : dataEnd g ≤ dataEnd w
   pub covers : end ≤ dataEnd w
@@ -157,7 +149,7 @@ new-sizes n g h end z k fits =
     let o = k .good in
     let e : dataEnd w ≡ dataEnd (extendData h end) = restamp-end g (extendData h end) z in
     let i : w .indexBytes ≡ h .indexBytes = restamp-index g (extendData h end) z ∙ extend-index h end in
-    let same : SameBlocks w h = same-restamp (extendData h end) h (same-extend h h (same-self h) end) g z in
+    let same : SameSealed w h = same-restamp (extendData h end) h (same-extend h h (same-self h) end) g z in
     let c : ceilingBlock n w ≡ ceilingBlock n h = ceiling-same h w same n i in
     record {
       good = good-sizes n h w o same (omega (arith, o .index-low)) (omega (arith, o .index-high)) (rw i (o .index-slots))

@@ -8,7 +8,7 @@ use native.Mathlib.Nat.{mul-le-mul-right, div-mul-le-self}
 use lib.ListN.{length, drop}
 use lib.IntN.{ℤ}
 use Rattle.rules.specs.SuperBlock.{Geometry, blockLength, dataEnd, ceilingBlock, restamp, withStamp, putSizes, superBlockAt, magicAt}
-use Rattle.rules.specs.SuperBlock.Laws.{GoodGeometry, SameBlocks, block-low, reserved-pos, length-least, length-putSizes, putSizes-before, putSizes-after}
+use Rattle.rules.specs.SuperBlock.Laws.{GoodGeometry, SameSealed, block-low, reserved-pos, length-least, length-putSizes, putSizes-before, putSizes-after}
 use Rattle.rules.specs.Index.{slotAt, itemsOf}
 use Rattle.rules.specs.Index.Walk.{pick-both}
 use Rattle.laws.proofs.Lists.Spans.{SameBut, but-parts, but-drop}
@@ -28,7 +28,7 @@ module _ (old new : Geometry) (stamp : ℤ) where
   restamp-end = pick-both (λ k. dataEnd k ≡ dataEnd new) _ new _ refl refl
 
 -- ---- the same blocks
-module _ (g h : Geometry) (same : SameBlocks h g) where
+module _ (g h : Geometry) (same : SameSealed h g) where
   pub block-same : blockLength h ≡ blockLength g
   unfolding blockLength
   block-same = rw (same .field-same)
@@ -43,7 +43,7 @@ unfolding ceilingBlock
 index-inside n h b c = omega (arith, mul-le-mul-right (blockLength h) c, div-mul-le-self (n - h .indexBytes) (blockLength h))
 
 -- other sizes of the same blocks are good where both areas have room
-pub good-sizes : (n : ℕ) (g h : Geometry) → GoodGeometry n g → SameBlocks h g → 128 ≤ h .indexBytes → h .indexBytes ≤ 262_144 → h .indexBytes % 64 ≡ 0
+pub good-sizes : (n : ℕ) (g h : Geometry) → GoodGeometry n g → SameSealed h g → 128 ≤ h .indexBytes → h .indexBytes ≤ 262_144 → h .indexBytes % 64 ≡ 0
     → dataEnd h ≤ ceilingBlock n h → GoodGeometry n h
 unfolding dataEnd
 good-sizes n g h o same low high slots fits =
@@ -62,7 +62,7 @@ good-sizes n g h o same low high slots fits =
     }
 
 -- so is a good geometry whose data area ends no later
-pub good-shrunk : (g h : Geometry) → SameBlocks h g → (n : ℕ) → h .indexBytes ≡ g .indexBytes → dataEnd h ≤ dataEnd g → GoodGeometry n g → GoodGeometry n h
+pub good-shrunk : (g h : Geometry) → SameSealed h g → (n : ℕ) → h .indexBytes ≡ g .indexBytes → dataEnd h ≤ dataEnd g → GoodGeometry n g → GoodGeometry n h
 good-shrunk g h same n index end good =
     good-sizes n g h good same (omega (arith, good .index-low)) (omega (arith, good .index-high)) (rw index (good .index-slots))
     (omega (arith, good .data-fits, ceiling-same g h same n index))

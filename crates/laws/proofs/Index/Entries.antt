@@ -14,7 +14,7 @@ use Rattle.rules.specs.Fields.Laws.{le-lt, upToZero-take}
 use Rattle.rules.specs.Fields.Signed.{signedOf-mag}
 use Rattle.rules.specs.SuperBlock.{Geometry}
 use Rattle.rules.specs.Names.{pathGood}
-use Rattle.rules.specs.Index.{Entry, Item, unused, entry, fault, itemAt, entryAt, unusableAt, runSlots, nameGood, nameField, runType, fileType, directoryType, fileField, typeUnusable, countAt, stampAt, endAt, lengthAt, slotBytes, followed, walk, itemsOf, entriesOf}
+use Rattle.rules.specs.Index.{Entry, Item, unused, entry, fault, itemAt, entryAt, unusableAt, runSlots, nameGood, nameField, runType, fileType, directoryType, fileField, typeUnusable, countAt, stampAt, endAt, lengthAt, slotBytes, followed, walk, itemsOf, entriesOf, walkAll}
 use Rattle.rules.specs.Index.Walk.{pick-both}
 use Rattle.laws.proofs.Index.Items.{item-by}
 
@@ -161,5 +161,5 @@ module _ (P : Entry → Type 0) (run : (left k : ℕ) (a : List ℕ) (e : Entry)
       (λ n. of-walk steps (suc left - n) (k + n) (drop (slotBytes * n) a))
 
   pub every-entry : (s : List ℕ) (g : Geometry) → All P (entriesOf (itemsOf s g))
-  unfolding itemsOf
+  unfolding itemsOf walkAll
   every-entry s g = of-walk _ _ 1 _

@@ -9,7 +9,7 @@ use lib.ListN.{length, length-append, drop}
 use borrow.Author.Tests.{leb-true}
 use Rattle.rules.specs.Lists.{only, sum}
 use Rattle.rules.specs.Dates.Text.{decimal-length}
-use Rattle.rules.specs.Index.{Entry, innerSlots, itemAt, itemsOf, slotAt, fileType}
+use Rattle.rules.specs.Index.{Entry, innerSlots, itemAt, itemsOf, slotAt, fileType, walkAll}
 use Rattle.rules.specs.Regions.{blocksOf, heldBlocks}
 use Rattle.rules.specs.Paths.{isLive}
 use Rattle.rules.specs.Refusals.{Verdict, refused, accepted, need, andThen, Volume, entries, judge, judgeGeometry, judgeIndex}
@@ -71,7 +71,7 @@ module _ (s : List ℕ) (v : Volume) (bytes : Bytes s) (o : Opens s v) (small : 
   -- a sum over the entries that stand in the index
   sum-entries : (f : Entry → ℕ) (m : ℕ) → ((left k : ℕ) (a : List ℕ) → 0 < left → Bytes a → Weighs f m left (itemAt left k a))
       → sum f (entries v) ≤ m * innerSlots (v .geometry)
-  unfolding itemsOf
+  unfolding itemsOf walkAll
   sum-entries f m each =
       rw (o .items-are)
       (sum-walk f m each (innerSlots (v .geometry)) (innerSlots (v .geometry)) 1 (drop (slotAt s (v .geometry) 1) s) (bytes-drop (slotAt s (v .geometry) 1) s bytes))
