@@ -1,4 +1,4 @@
-pub mod Unusable
+pub mod Sights
 pub mod Format
 pub mod Create
 pub mod Delete

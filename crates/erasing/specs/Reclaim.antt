@@ -24,7 +24,7 @@ use Rattle.index.specs.declared.Head.{Head}
 use Rattle.index.specs.View.{itemsFrom, headView}
 use Rattle.index.specs.Steps.{Walks, HeadIn, Step, entriesFrom}
 use Rattle.super_block.specs.Written.{join}
-use Rattle.laws.proofs.Index.ListFacts.{drop-splice-after}
+use Rattle.laws.proofs.Lists.Spans.{drop-splice-after}
 use Rattle.laws.proofs.Index.Unused.{length-unusedBytes}
 use Rattle.judging.specs.View.{volumeOf}
 use Rattle.laws.proofs.Images.Areas.{index-start}

@@ -1,5 +1,4 @@
 -- Theorems about the walk over the index.
-pub mod ListFacts
 pub mod Slots
 pub mod Items
 pub mod Walks

@@ -1,6 +1,6 @@
 -- The index after a run was written: sound, with the new entry among the others, whether the run went to unused slots or to the front. Assumes nothing.
 use Prim.Native.Nat.{ℕ, _+_, _*_, _≤_}
-use mathlib.Core.Path.{_≡_, refl, sym, ap, ap₂, _∙_}
+use mathlib.Core.Path.{_≡_, refl, ap, ap₂, _∙_}
 use mathlib.Core.List.{List, [], _∷_, _++_, map}
 use lib.ListN.{length}
 use lib.IntN.{pos}
@@ -13,7 +13,7 @@ use Rattle.laws.proofs.Lists.Parts.{map-map}
 use Rattle.laws.proofs.Lists.Perms.{perm-back, perm-of, perm-map, perm-insert}
 use Rattle.laws.proofs.Index.Items.{noFault, noFault-swap}
 use Rattle.laws.proofs.Index.Places.{entriesOf-append}
-use Rattle.laws.proofs.Index.Unused.{unusedFrom, unusedFrom-entries, Room}
+use Rattle.laws.proofs.Index.Unused.{unusedFrom, unusedFrom-entries, UnusedRun}
 use Rattle.laws.proofs.Index.Shift.{shiftItem, shiftEntry, entriesOf-shift, noFault-shift}
 use Rattle.laws.proofs.Index.Runs.{Storable, stored}
 use Rattle.laws.proofs.Index.Writes.{one-sound}
@@ -59,7 +59,7 @@ unused-order e is pre post k m split =
     ∙ ap (λ (es : List Entry). entriesOf pre ++ es) (entriesOf-append (unusedFrom k m) post ∙ rw (unusedFrom-entries k m)) in
     rw (after, before, ← core-stored e) (perm-map core (perm-back (perm-insert (stored e) (entriesOf pre) (entriesOf post))))
 
-pub unused-added : (s : List ℕ) (g : Geometry) (is : List Item) (e : Entry) → GoodGeometry (length s) g → itemsOf s g ≡ is → noFault is → Storable e → Room (e .slots) 1 (e .slot) is
+pub unused-added : (s : List ℕ) (g : Geometry) (is : List Item) (e : Entry) → GoodGeometry (length s) g → itemsOf s g ≡ is → noFault is → Storable e → UnusedRun (e .slots) 1 (e .slot) is
     → Added s (splice s (slotAt s g (e .slot)) (runBytes e)) g e (entriesOf is)
 unused-added s g is e good here sound k r =
     let clear : noFault (r .pre ++ (unusedFrom (e .slot) (e .slots) ++ r .post)) = rw (r .split) at sound in

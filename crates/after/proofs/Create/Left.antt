@@ -1,20 +1,20 @@
 -- An accepted create leaves an image that opens, in which the new entry is seen and the others are as they were. Assumes nothing.
-use Prim.Native.Nat.{ℕ, _+_, _-_, _*_, _≤_}
+use Prim.Native.Nat.{ℕ, _+_, _*_, _≤_}
 use mathlib.Core.Path.{_≡_, refl, sym, ap, ap₂, _∙_}
 use mathlib.Core.Bool.{true}
 use mathlib.Core.List.{List, _∷_, map}
-use mathlib.Core.Logic.{_⊎_, inl, inr}
+use mathlib.Core.Logic.{inl, inr}
 use native.Mathlib.Omega.{arith}
 use lib.ListN.{length}
 use lib.IntN.{ℤ}
 use Rattle.rules.specs.Lists.{only, padded, All, Perm}
 use Rattle.rules.specs.Lists.Laws.{only-yes, length-padded}
 use Rattle.rules.specs.Fields.{splice}
-use Rattle.rules.specs.SuperBlock.{Geometry, blockLength, dataEnd, putSizes, withStamp}
+use Rattle.rules.specs.SuperBlock.{Geometry, blockLength, putSizes}
 use Rattle.rules.specs.SuperBlock.Laws.{asStored, stored-block, stored-index}
 use Rattle.rules.specs.Names.Laws.{new-path}
 use Rattle.rules.specs.Index.{Entry, itemsOf, slotAt, slotBytes, runBytes}
-use Rattle.rules.specs.Regions.{withinData, fileRegionGood, regionGood, apart, regionsSound, blocksOf, blocksNeeded}
+use Rattle.rules.specs.Regions.{regionGood, apart, regionsSound, blocksOf, blocksNeeded}
 use Rattle.rules.specs.Paths.{pathsSound}
 use Rattle.rules.specs.Refusals.{accepted, Volume, entries, judge}
 use Rattle.rules.specs.Refusals.Laws.{GoodSuper, Opens, judge-opens, opens-judge, opens-super, sizes-super}
@@ -28,7 +28,7 @@ use Rattle.laws.proofs.Index.Items.{noFault}
 use Rattle.laws.proofs.Index.Slots.{slot-at, slot-first, slot-same, items-same}
 use Rattle.laws.proofs.Index.Ends.{endsGood, ends-good, ends-same}
 use Rattle.laws.proofs.Index.Runs.{Storable}
-use Rattle.laws.proofs.Entries.Regions.{Regionless, Within, Fresh, sound-says, sound-create, sound-geometry}
+use Rattle.laws.proofs.Entries.Regions.{Fresh, sound-says, sound-create, sound-stored, region-stored, placed-stored}
 use Rattle.laws.proofs.Entries.Walked.{Bare, settled-entries, bare-entries}
 use Rattle.laws.proofs.Entries.Paths.{paths-create}
 use Rattle.laws.proofs.Entries.Creating.{place-fits, new-fresh}
@@ -39,31 +39,13 @@ use Rattle.laws.proofs.Images.Inner.{inner-index, inner-between, inner-opens}
 use Rattle.laws.proofs.Images.Sizes.{block-same, sizes-long, sizes-between, sizes-drop, sizes-ends}
 use Rattle.laws.proofs.Images.Marker.{marker-written, marker-good}
 use Rattle.laws.proofs.Images.Placing.{newGeometry, Placed, run-place, unused-room, grown-index, Grown, place-grown, Sizes, new-sizes}
-use Rattle.after.proofs.Unusable.{extents-named}
+use Rattle.after.proofs.Sights.{seen-same, extents-named}
 use Rattle.after.proofs.Create.Passed.{CreatePassed, create-passed}
 use Rattle.after.proofs.Create.Added.{Added, unused-added, front-added}
 use Rattle.after.proofs.Create.Made.{Made, new-made, kind-run, fresh-region, bytes-fit, blocks-fit, made-storable}
 use Rattle.after.proofs.Create.Seen.{regions-order, paths-order, seen-order, extents-order, seen-new}
 
--- a stamp does not matter to the regions
-stored-regions : (g : Geometry) (es : List Entry) → regionsSound (asStored g) es ≡ regionsSound g es
-unfolding asStored withStamp
-stored-regions g es = sound-geometry (asStored g) g es refl refl refl
-
-stored-good : (g : Geometry) (e : Entry) → regionGood (asStored g) e ≡ regionGood g e
-unfolding asStored withStamp regionGood fileRegionGood withinData dataEnd blockLength
-stored-good g e = refl
-
-stored-region : (g : Geometry) (e : Entry) → Regionless e ⊎ Within g e → Regionless e ⊎ Within (asStored g) e
-unfolding asStored withStamp dataEnd
-stored-region g e (inl r) = inl r
-stored-region g e (inr w) = inr (record { low = w .low; some = w .some; high = w .high })
-
--- what is seen of an entry is its bytes
-seen-same : (s t : List ℕ) (g h : Geometry) (f : Entry) → fileBytes t h f ≡ fileBytes s g f → seen t h f ≡ seen s g f
-unfolding seen
-seen-same s t g h f e = rw e
-
+-- bytes depend on the block length
 bytes-block : (s : List ℕ) (g h : Geometry) (f : Entry) → blockLength h ≡ blockLength g → fileBytes s h f ≡ fileBytes s g f
 unfolding fileBytes
 bytes-block s g h f e = rw e
@@ -192,7 +174,7 @@ module _ (s : List ℕ) (v : Volume) (new : New) (path : List ℕ) (stamp : ℤ)
       (ends-same marked marked g′ (asStored g′) refl (stored-index g′) refl refl ∙ marked-ends)
       (items-same indexed indexed g′ (asStored g′) refl (stored-index g′) refl)
       (added .sound)
-      (regions-order (entries volume) (e ∷ entries v) (added .order) (asStored g′) ∙ stored-regions g′ (e ∷ entries v) ∙ regions-good)
+      (regions-order (entries volume) (e ∷ entries v) (added .order) (asStored g′) ∙ sound-stored g′ (e ∷ entries v) ∙ regions-good)
       (paths-order (entries volume) (e ∷ entries v) (added .order) ∙ paths-good))
 
   -- ---- the blocks
@@ -209,7 +191,7 @@ module _ (s : List ℕ) (v : Volume) (new : New) (path : List ℕ) (stamp : ℤ)
   unfolding created newEntry blocksOf
   kept =
       rw (← stored-block g′)
-      (blocks-written indexed volume indexed-opens e (stored-region g′ e (fresh-region g′ (entries v) e fresh)) (padded (bytesOf new) (blocksOf e * blockLength (asStored g′)))
+      (blocks-written indexed volume indexed-opens e (placed-stored g′ e (fresh-region g′ (entries v) e fresh)) (padded (bytesOf new) (blocksOf e * blockLength (asStored g′)))
       (length-padded (bytesOf new) (blocksOf e * blockLength (asStored g′)) (rw (stored-block g′) bytes-room)))
 
   -- ---- what is seen
@@ -224,7 +206,7 @@ module _ (s : List ℕ) (v : Volume) (new : New) (path : List ℕ) (stamp : ℤ)
       let good = sound-says g′ (e ∷ entries v) regions-good in
       all-weaken (λ f. (Bare f × (regionGood g′ f ≡ true)) × (apart e f ≡ true)) (λ f. seen t (asStored g′) f ≡ seen s g f)
       (λ f q. seen-same s t g (asStored g′) f
-      (others-bytes indexed t volume e f kept (q .1) (asStored g′) refl (q .0 .0) (stored-good g′ f ∙ q .0 .1)
+      (others-bytes indexed t volume e f kept (q .1) (asStored g′) refl (q .0 .0) (region-stored g′ f ∙ q .0 .1)
       ∙ bytes-kept s indexed g′ (asStored g′) f (sizes .good) between (stored-block g′) (q .0 .0) (q .0 .1)
       ∙ bytes-block s g g′ f block-kept)) (entries v)
       (all-and _ _ (entries v) (all-and Bare _ (entries v) (bare-entries s v o) (good .each .1)) (good .two .0))

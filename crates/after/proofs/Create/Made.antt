@@ -1,6 +1,6 @@
 -- The entry that create makes: its run can be stored, and its bytes fill its region. Assumes nothing.
 use Prim.Native.Nat.{ℕ, _+_, _-_, _*_, _≤_}
-use mathlib.Core.Path.{_≡_, refl, sym, ap, _∙_}
+use mathlib.Core.Path.{_≡_, refl, sym, _∙_}
 use mathlib.Core.Bool.{true, false}
 use mathlib.Core.List.{List}
 use mathlib.Core.Logic.{_⊎_, inl, inr}
@@ -13,11 +13,11 @@ use Rattle.rules.specs.Lists.Laws.{clash}
 use Rattle.rules.specs.SuperBlock.{Geometry, blockLength, dataEnd}
 use Rattle.rules.specs.SuperBlock.Laws.{GoodGeometry, block-low, areas-fit}
 use Rattle.rules.specs.Names.{pathGood}
-use Rattle.rules.specs.Index.{Entry, fileType, directoryType, runType, typeFile}
+use Rattle.rules.specs.Index.{Entry, fileType, directoryType, runType}
 use Rattle.rules.specs.Regions.{blocksOf, blocksNeeded}
 use Rattle.rules.specs.Regions.Laws.{needed-covers}
 use Rattle.rules.specs.Writing.{New, newFile, newDirectory, kindOf, bytesOf, newEntry, newSlots, newBlocks, Place, siteOf}
-use Rattle.laws.proofs.Entries.Regions.{Regionless, Within, Fresh, directory, empty, run}
+use Rattle.laws.proofs.Entries.Regions.{Regionless, Within, kind-file, Fresh, directory, empty, run}
 use Rattle.laws.proofs.Index.Runs.{Storable}
 
 -- ---- its fields
@@ -47,10 +47,6 @@ no-bytes : (new : New) → fileType (kindOf new) ≡ false → length (bytesOf n
 unfolding kindOf bytesOf fileType
 no-bytes (newFile bytes) e = clash e
 no-bytes newDirectory e = refl
-
-kind-file : (t : ℕ) → t ≡ typeFile → fileType t ≡ true
-unfolding fileType
-kind-file t e = rw e
 
 -- ---- its region
 no-region : (g : Geometry) (es : List Entry) (e : Entry) → Fresh g es e → fileType (e .kind) ≡ false → Regionless e

@@ -1,30 +1,24 @@
 -- What is judged and seen of the entries after a create. Assumes nothing.
-use Prim.Native.Nat.{ℕ, _+_, _-_, _*_, _≤_}
-use mathlib.Core.Path.{_≡_, refl, sym, ap, ap₂, _∙_}
-use mathlib.Core.Bool.{Bool, true, false, _&&_, _||_}
-use mathlib.Core.List.{List, [], map}
-use mathlib.Core.Logic.{_⊎_, inl, inr}
+use Prim.Native.Nat.{ℕ, _-_}
+use mathlib.Core.Path.{_≡_, refl, sym, ap, _∙_}
+use mathlib.Core.Bool.{true}
+use mathlib.Core.List.{List, map}
 use native.Mathlib.Omega.{arith}
-use native.Mathlib.Nat.{add-mul, mul-le-mul-right}
 use lib.ListN.{length}
-use lib.Dec.{eqb, leb}
-use borrow.Author.Tests.{leb-true, eqb-true}
-use Rattle.rules.specs.Lists.{pick, only, part, Perm}
-use Rattle.rules.specs.Lists.Laws.{and-true, pick-true}
-use Rattle.rules.specs.SuperBlock.{Geometry, blockLength, dataEnd}
-use Rattle.rules.specs.SuperBlock.Laws.{GoodGeometry}
+use Rattle.rules.specs.Lists.{pick, only, Perm}
+use Rattle.rules.specs.SuperBlock.{Geometry}
 use Rattle.rules.specs.Index.{Entry, fileType, liveType, typeFile, typeDirectory}
-use Rattle.rules.specs.Regions.{blocksOf, blocksNeeded, withinData, fileRegionGood, regionGood, apart, regionsSound}
+use Rattle.rules.specs.Regions.{blocksOf, blocksNeeded, regionsSound}
 use Rattle.rules.specs.Paths.{isLive, pathsSound}
 use Rattle.rules.specs.Reading.{fileBytes}
-use Rattle.rules.specs.Writing.{New, newFile, newDirectory, kindOf, bytesOf, created}
+use Rattle.rules.specs.Writing.{New, newFile, newDirectory, kindOf, bytesOf}
 use Rattle.rules.specs.History.{keptOf}
 use Rattle.after.specs.After.{isNamed, seen, extentOf, isUnusable}
 use Rattle.laws.proofs.Lists.Parts.{only-map, map-map}
 use Rattle.laws.proofs.Lists.Perms.{perm-map, perm-only}
-use Rattle.laws.proofs.Entries.Regions.{Within, within-says, SameRegion, same-region, sound-map, sound-perm}
+use Rattle.laws.proofs.Entries.Regions.{SameRegion, same-region, sound-map, sound-perm}
 use Rattle.laws.proofs.Entries.Paths.{SamePath, paths-map, paths-perm}
-use Rattle.after.proofs.Unusable.{extentsOf, extents-map}
+use Rattle.after.proofs.Sights.{extentsOf, extents-map}
 use Rattle.after.proofs.Create.Added.{core}
 use Rattle.after.proofs.Create.Made.{Made}
 

@@ -29,7 +29,7 @@ use Rattle.laws.proofs.Index.Ends.{ends-good}
 use Rattle.laws.proofs.Entries.Walked.{bare-entries}
 use Rattle.laws.proofs.Images.Inner.{Inner, inner-between, inner-opens}
 use Rattle.laws.proofs.Images.Indexes.{retyped-inner, retyped-items}
-use Rattle.after.proofs.Unusable.{extentsOf, extents-map}
+use Rattle.after.proofs.Sights.{extentsOf, extents-map}
 use Rattle.after.proofs.Delete.Marking.{all-marked}
 
 -- ---- what an accepted delete has passed

@@ -10,7 +10,7 @@ use Rattle.rules.specs.Lists.{only, All}
 use Rattle.rules.specs.SuperBlock.{Geometry, blockLength}
 use Rattle.rules.specs.SuperBlock.Laws.{GoodGeometry}
 use Rattle.rules.specs.Index.{Entry, fileType, directoryType, runType, liveType, deletedType, typeFile, typeDirectory, typeDeletedFile, typeDeletedDirectory}
-use Rattle.rules.specs.Regions.{regionGood, regionsSound}
+use Rattle.rules.specs.Regions.{regionsSound}
 use Rattle.rules.specs.Paths.{isLive}
 use Rattle.rules.specs.Writing.{isDeleted}
 use Rattle.after.specs.After.{isNamed, seen}
@@ -20,6 +20,7 @@ use Rattle.laws.proofs.Entries.Regions.{sound-says}
 use Rattle.laws.proofs.Entries.Walked.{Bare}
 use Rattle.laws.proofs.Images.Kept.{Between}
 use Rattle.laws.proofs.Images.Areas.{bytes-kept}
+use Rattle.after.proofs.Sights.{seen-same}
 
 -- ---- a file or directory that is not deleted is live
 neither : (a b : Bool) → ((a || false) || (b || false)) ≡ (((a || false) || (b || false)) && (a || b))
@@ -44,15 +45,11 @@ live-named es =
 
 -- ---- and seen as they were
 module _ (s t : List ℕ) (g h : Geometry) (good : GoodGeometry (length s) g) (same : Between s t g) (block : blockLength h ≡ blockLength g) where
-  seen-same : (e : Entry) → Bare e → regionGood g e ≡ true → seen t h e ≡ seen s g e
-  unfolding seen
-  seen-same e b r = rw (bytes-kept s t g h e good same block b r)
-
   pub all-kept : (es : List Entry) → All Bare es → regionsSound g es ≡ true
       → map (seen t h) (only isNamed (only (λ e. not (isDeleted e)) es)) ≡ only (λ k. k .live) (map (seen s g) (only isNamed es))
   unfolding seen
   all-kept es b r =
-      let each = all-weaken _ (λ e. seen t h e ≡ seen s g e) (λ e p. seen-same e (p .0) (p .1)) es (all-and Bare _ es b (sound-says g es r .each)) in
+      let each = all-weaken _ (λ e. seen t h e ≡ seen s g e) (λ e p. seen-same s t g h e (bytes-kept s t g h e good same block (p .0) (p .1))) es (all-and Bare _ es b (sound-says g es r .each)) in
       ap (map (seen t h)) (live-named es)
       ∙ map-ext (seen t h) (seen s g) (only isLive (only isNamed es)) (all-only _ isLive (only isNamed es) (all-only _ isNamed es each))
       ∙ sym (only-map (λ k. k .live) (seen s g) (only isNamed es))

@@ -1,13 +1,13 @@
 -- An accepted reclaim leaves an image that opens, with its live entries as they were.
 use Prim.Native.Nat.{ℕ, _≤_}
 use mathlib.Core.Path.{_≡_, refl, sym, ap, _∙_}
-use mathlib.Core.Bool.{true, not}
+use mathlib.Core.Bool.{true}
 use mathlib.Core.List.{List}
 use native.Mathlib.Omega.{arith}
 use lib.ListN.{length}
 use lib.IntN.{ℤ}
 use Rattle.rules.specs.Lists.{only}
-use Rattle.rules.specs.SuperBlock.{Geometry, blockLength, dataEnd, trimData, withData, withStamp, restamp, putSizes}
+use Rattle.rules.specs.SuperBlock.{Geometry, blockLength, dataEnd, trimData, withData, restamp, putSizes}
 use Rattle.rules.specs.SuperBlock.Laws.{GoodGeometry, SameSealed, same-self, same-trim, same-restamp, asStored, stored-block, stored-index}
 use Rattle.rules.specs.Index.{Entry, itemsOf}
 use Rattle.rules.specs.Regions.{regionsSound}
@@ -17,7 +17,7 @@ use Rattle.rules.specs.Writing.{reclaimOf, cleared, undeleted, leastEnd, isDele
 use Rattle.after.specs.After.{Left, sight, unusables, AfterReclaim}
 use Rattle.laws.proofs.Lists.Perms.{perm-of}
 use Rattle.laws.proofs.Index.Items.{noFault}
-use Rattle.laws.proofs.Entries.Regions.{sound-geometry, sound-reclaim, sound-restamp, trim-fits}
+use Rattle.laws.proofs.Entries.Regions.{sound-stored, sound-reclaim, sound-restamp, trim-fits}
 use Rattle.laws.proofs.Entries.Walked.{settled-entries, bare-entries}
 use Rattle.laws.proofs.Entries.Paths.{paths-reclaim}
 use Rattle.laws.proofs.Images.Accepted.{passed-writable, passed-done}
@@ -27,7 +27,7 @@ use Rattle.laws.proofs.Images.Kept.{Between}
 use Rattle.laws.proofs.Images.Inner.{inner-index, inner-between, inner-opens}
 use Rattle.laws.proofs.Images.Sizes.{restamp-index, restamp-end, block-same, good-shrunk, sizes-long, sizes-between, sizes-ends, sizes-items}
 use Rattle.laws.proofs.Images.Clearing.{Cleared, clearedItems, cleared-entries, cleared-sound, clear-all}
-use Rattle.after.proofs.Unusable.{extentsOf, extents-undeleted}
+use Rattle.after.proofs.Sights.{extentsOf, extents-undeleted}
 use Rattle.after.proofs.Reclaim.Keeping.{all-kept}
 
 -- ---- the geometry that is written, and the one that is then read
@@ -97,10 +97,10 @@ module _ (s : List ℕ) (v : Volume) (stamp : ℤ) (o : Opens s v) where
   volume = record { geometry = asStored h; items = clearedItems isDeleted (v .items) }
 
   regions : regionsSound (asStored h) (undeleted (entries v)) ≡ true
-  unfolding trimmed asStored withStamp
+  unfolding trimmed
   regions =
       let es : List Entry = undeleted (entries v) in
-      sound-geometry (asStored h) h es refl refl refl
+      sound-stored h es
       ∙ sound-restamp g (trimData g (leastEnd (undeleted (entries v)))) stamp es
       ∙ sound-reclaim g (entries v) (o .regions-sound)
 

@@ -1,12 +1,10 @@
 -- The paths above a path: its directory and that one's own, and what lies below a directory. Assumes nothing.
 use Prim.Native.Nat.{ℕ}
-use mathlib.Core.Path.{_≡_, refl, sym, ap, ap₂, _∙_}
+use mathlib.Core.Path.{_≡_, refl, sym, ap, _∙_}
 use mathlib.Core.Bool.{Bool, true, false, _&&_}
 use mathlib.Core.List.{List, [], _∷_, _++_, map}
 use lib.Dec.{eqb}
-use borrow.Author.Tests.{eqb-true, eq-eqb}
 use Rattle.rules.specs.Lists.{any, eqList}
-use Rattle.rules.specs.Lists.Laws.{clash, and-true, and-both}
 use Rattle.rules.specs.Names.{slash, leadIf, leading, isBelow}
 use Rattle.laws.proofs.Lists.Parts.{map-append, any-map}
 use Rattle.laws.proofs.Lists.Every.{any-none, all-of}
@@ -57,17 +55,3 @@ below-leading (a ∷ as′) (b ∷ bs) =
     ∙ sym (no-lead (eqb b slash) (eqList (a ∷ as′)) (map (λ p. b ∷ p) (leading bs)) refl
     ∙ any-map (eqList (a ∷ as′)) (λ p. b ∷ p) (leading bs)
     ∙ any-and (eqb a b) (eqList as′) (leading bs))
-
-pub below-says : (d p : List ℕ) → isBelow d p ≡ true → (q : List ℕ) × (p ≡ d ++ (slash ∷ q))
-unfolding isBelow
-below-says d [] e = clash (sym e)
-below-says [] (b ∷ bs) e = (bs, ap (λ c. c ∷ bs) (eqb-true b slash e))
-below-says (a ∷ as′) (b ∷ bs) e =
-    let h = and-true (eqb a b) (isBelow as′ bs) e in
-    let (q, r) = below-says as′ bs (h .1) in
-    (q, ap₂ (λ c cs. c ∷ cs) (sym (eqb-true a b (h .0))) r)
-
-pub below-holds : (d q : List ℕ) → isBelow d (d ++ (slash ∷ q)) ≡ true
-unfolding isBelow
-below-holds [] q = refl
-below-holds (a ∷ as′) q = and-both (eqb a a) (isBelow as′ (as′ ++ (slash ∷ q))) (eq-eqb a a refl) (below-holds as′ q)

@@ -9,18 +9,19 @@ use native.Mathlib.Nat.{add-mul}
 use lib.Dec.{eqb, ltb, leb}
 use lib.IntN.{ℤ}
 use borrow.Author.Tests.{leb-true, ltb-true, le-leb, lt-ltb, eqb-true, eq-eqb}
-use Rattle.rules.specs.Lists.{pick, all, everyTwo, only, All, Pairs, Perm}
+use Rattle.rules.specs.Lists.{pick, all, everyTwo, All, Pairs, Perm}
 use Rattle.rules.specs.Lists.Laws.{and-true, and-both, or-right, pick-true, pick-false}
 use Rattle.rules.specs.SuperBlock.{Geometry, blockLength, dataEnd, extendData, trimData, restamp, withData, withStamp}
+use Rattle.rules.specs.SuperBlock.Laws.{asStored}
 use Rattle.rules.specs.Index.{Entry, fileType, typeFile, typeDirectory, typeUnusable}
-use Rattle.rules.specs.Regions.{holds, blocksOf, withinData, fileRegionGood, regionGood, apart, regionsSound, busy, runFree, lowestFree}
-use Rattle.rules.specs.Regions.Laws.{holds-says, apart-back, apart-before, apart-behind, none-apart, run-says, lowest-ext}
+use Rattle.rules.specs.Regions.{holds, blocksOf, withinData, fileRegionGood, regionGood, apart, regionsSound, busy, runFree}
+use Rattle.rules.specs.Regions.Laws.{holds-says, apart-back, apart-before, apart-behind, none-apart, run-says}
 use Rattle.rules.specs.Index.Walk.{pick-both}
 use Rattle.rules.specs.Paths.{isLive}
 use Rattle.rules.specs.Writing.{deletedKind, isDeleted, undeleted, leastEnd}
 use Rattle.laws.proofs.Entries.EntryKinds.{deleted-alike}
 use Rattle.laws.proofs.Lists.Every.{not-both, and-map, or-map, or-left, pick-map, all-weaken, all-of, all-and, all-each, all-only, pairs-only, all-says, all-holds, two-says, two-holds, none-passes, every-map, every-ext, two-map, two-ext, le-largest, largest-le}
-use Rattle.laws.proofs.Lists.Perms.{perm-every, perm-any, perm-two}
+use Rattle.laws.proofs.Lists.Perms.{perm-every, perm-two}
 
 -- ---- as statements
 pub record RegionsGood (g : Geometry) (es : List Entry) : Type 0 where
@@ -175,7 +176,7 @@ pub data Fresh (g : Geometry) (es : List Entry) (e : Entry) : Type 0 where
   run : (k : ℕ) → e .kind ≡ typeFile → g .reserved ≤ e .start → e .end ≡ e .start + k → 0 < k → runFree es (e .start) k ≡ true → e .end ≤ dataEnd g
       → e .length ≤ k * blockLength g → Fresh g es e
 
-kind-file : (t : ℕ) → t ≡ typeFile → fileType t ≡ true
+pub kind-file : (t : ℕ) → t ≡ typeFile → fileType t ≡ true
 unfolding fileType
 kind-file t e = rw e
 
@@ -336,10 +337,16 @@ unfolding restamp withStamp
 sound-restamp old new t es =
     pick-both (λ g. regionsSound g es ≡ regionsSound new es) _ new (withStamp new t) refl (sound-geometry (withStamp new t) new es refl refl refl)
 
--- ---- free blocks do not depend on the order
-pub busy-perm : {es fs : List Entry} → Perm es fs → (b : ℕ) → busy es b ≡ busy fs b
-unfolding busy
-busy-perm p b = perm-any (holds b) p
+-- and neither does storing it
+pub sound-stored : (g : Geometry) (es : List Entry) → regionsSound (asStored g) es ≡ regionsSound g es
+unfolding asStored withStamp
+sound-stored g es = sound-geometry (asStored g) g es refl refl refl
 
-pub lowest-perm : {es fs : List Entry} → Perm es fs → (k low ceiling : ℕ) → lowestFree es k low ceiling ≡ lowestFree fs k low ceiling
-lowest-perm {es} {fs} p = lowest-ext es fs (busy-perm p)
+pub region-stored : (g : Geometry) (e : Entry) → regionGood (asStored g) e ≡ regionGood g e
+unfolding asStored withStamp regionGood fileRegionGood withinData dataEnd blockLength
+region-stored g e = refl
+
+pub placed-stored : (g : Geometry) (e : Entry) → Regionless e ⊎ Within g e → Regionless e ⊎ Within (asStored g) e
+unfolding asStored withStamp dataEnd
+placed-stored g e (inl r) = inl r
+placed-stored g e (inr w) = inr (record { low = w .low; some = w .some; high = w .high })

@@ -5,7 +5,6 @@ use mathlib.Core.Bool.{Bool, true, false}
 use mathlib.Core.List.{List, []}
 use mathlib.Core.Option.{Option, none, some}
 use native.Mathlib.Omega.{arith}
-use lib.Dec.{leb}
 use Rattle.rules.specs.SuperBlock.{writable}
 use Rattle.rules.specs.Refusals.{Verdict, accepted, need, needFound, Volume, judge}
 use Rattle.rules.specs.Refusals.Laws.{then-next}

@@ -2,7 +2,7 @@
 use Prim.Native.Nat.{ℕ}
 use mathlib.Core.Path.{_≡_, refl, sym, ap, _∙_}
 use mathlib.Core.Bool.{Bool, true, false, not}
-use mathlib.Core.List.{List, [], _∷_, _++_}
+use mathlib.Core.List.{List, [], _∷_, _++_, append-assoc}
 use lib.ListN.{length}
 use Rattle.rules.specs.Lists.{pick, all, only, keepIf}
 use Rattle.rules.specs.Lists.Laws.{all-append, and-both}
@@ -11,7 +11,6 @@ use Rattle.rules.specs.SuperBlock.{Geometry}
 use Rattle.rules.specs.SuperBlock.Laws.{GoodGeometry}
 use Rattle.rules.specs.Index.{Entry, Item, unused, entry, fault, isFault, itemsOf, entriesOf, slotAt, unusedBytes}
 use Rattle.rules.specs.Writing.{cleared}
-use Rattle.laws.proofs.Lists.Parts.{append-assoc}
 use Rattle.laws.proofs.Index.Items.{noFault, noFault-cons, noFault-swap}
 use Rattle.laws.proofs.Index.Places.{entriesOf-append}
 use Rattle.laws.proofs.Index.Unused.{unusedFrom, unusedFrom-sound, unusedFrom-entries}

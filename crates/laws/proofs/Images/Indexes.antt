@@ -1,5 +1,5 @@
 -- The items of an image after each write to its index: slots written anew, a run of another type and stamp, the index grown by a run.
-use Prim.Native.Nat.{ℕ, _+_, _-_, _*_, _≤_}
+use Prim.Native.Nat.{ℕ, _+_, _*_, _≤_}
 use mathlib.Core.Path.{_≡_, refl, sym, ap, ap₂, subst, _∙_}
 use mathlib.Core.Bool.{true}
 use mathlib.Core.List.{List, [], _∷_, _++_, map}
@@ -12,7 +12,7 @@ use Rattle.rules.specs.SuperBlock.Laws.{GoodGeometry, storedStamp}
 use Rattle.rules.specs.Index.{Entry, Item, entry, itemsOf, innerSlots, slotAt, slotBytes, unusedBytes, runBytes, runType, fileType, retyped}
 use Rattle.rules.specs.Index.Walk.{walkAll}
 use Rattle.rules.specs.Writing.{itemSlot}
-use Rattle.laws.proofs.Index.ListFacts.{drop-splice, drop-splice-part}
+use Rattle.laws.proofs.Lists.Spans.{drop-splice, drop-splice-part}
 use Rattle.laws.proofs.Index.Items.{slotsIn, slotsIn-append, noFault}
 use Rattle.laws.proofs.Index.Walks.{slots-all, walk-replace}
 use Rattle.laws.proofs.Index.Slots.{slot-at, slot-same, identifier-at, inner-slots, items-walk}

@@ -1,5 +1,5 @@
 -- A write between the start marker and the volume identifier: super-block, data area and both ends of the index area are kept.
-use Prim.Native.Nat.{ℕ, _+_, _-_, _≤_}
+use Prim.Native.Nat.{ℕ, _+_, _≤_}
 use mathlib.Core.Path.{_≡_, refl, sym, _∙_}
 use mathlib.Core.Bool.{true}
 use mathlib.Core.List.{List}
@@ -10,7 +10,7 @@ use lib.IntN.{ℤ}
 use Rattle.rules.specs.Fields.{splice}
 use Rattle.rules.specs.SuperBlock.{Geometry}
 use Rattle.rules.specs.SuperBlock.Laws.{GoodGeometry}
-use Rattle.rules.specs.Index.{Item, itemsOf, entriesOf, identifierAt, slotAt, slotBytes, retyped}
+use Rattle.rules.specs.Index.{Item, itemsOf, entriesOf, identifierAt, slotAt, retyped}
 use Rattle.rules.specs.Regions.{regionsSound}
 use Rattle.rules.specs.Paths.{pathsSound}
 use Rattle.rules.specs.Refusals.Laws.{GoodSuper, Opens, super-opens}

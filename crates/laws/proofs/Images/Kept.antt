@@ -1,23 +1,18 @@
 -- What a write keeps of an image, by where it lies: the super-block, the index area, the bytes between them. Assumes nothing.
-use Prim.Native.Nat.{ℕ, _+_, _-_, _≤_}
+use Prim.Native.Nat.{ℕ, _+_, _≤_}
 use mathlib.Core.Path.{_≡_, refl, sym, _∙_}
-use mathlib.Core.Bool.{true}
 use mathlib.Core.List.{List}
 use mathlib.Core.Logic.{_⊎_, inl, inr}
 use native.Mathlib.Omega.{arith}
 use lib.ListN.{length, drop}
 use Rattle.rules.specs.Lists.{part}
 use Rattle.rules.specs.SuperBlock.{Geometry, superBlockAt}
-use Rattle.rules.specs.SuperBlock.Laws.{GoodGeometry}
-use Rattle.rules.specs.Index.{Item, itemsOf, entriesOf, slotAt, slotBytes, identifierAt}
-use Rattle.rules.specs.Regions.{regionsSound}
-use Rattle.rules.specs.Paths.{pathsSound}
+use Rattle.rules.specs.Index.{itemsOf, slotAt, slotBytes, identifierAt}
 use Rattle.rules.specs.Refusals.{accepted, Volume, judge}
-use Rattle.rules.specs.Refusals.Laws.{GoodSuper, judge-super, super-judge, judgeGeometry-same, Opens, judge-opens, opens-judge, opens-super, super-opens}
+use Rattle.rules.specs.Refusals.Laws.{GoodSuper, judge-super, super-judge, judgeGeometry-same, judge-opens, opens-judge, opens-super, super-opens}
 use Rattle.laws.proofs.Lists.Spans.{SameBut, but-part, but-drop, drop-from, byte-from}
 use Rattle.laws.proofs.Index.Slots.{slot-at, slot-first, identifier-at, items-same}
 use Rattle.laws.proofs.Index.Ends.{endsGood, ends-good, good-ends, ends-same}
-use Rattle.laws.proofs.Index.Items.{noFault}
 
 -- ---- what is judged of the super-block and of the index area depends on their bytes
 pub super-same : (s t : List ℕ) (g : Geometry) → length t ≡ length s → part t superBlockAt 42 ≡ part s superBlockAt 42 → GoodSuper s g → GoodSuper t g

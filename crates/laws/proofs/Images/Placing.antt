@@ -1,6 +1,6 @@
 -- Where a create puts its run, and the geometry that it then writes: good, with the same blocks, and large enough. Assumes nothing.
-use Prim.Native.Nat.{ℕ, _+_, _-_, _*_, _≤_}
-use mathlib.Core.Path.{_≡_, refl, sym, ap, _∙_}
+use Prim.Native.Nat.{ℕ, _+_, _*_, _≤_}
+use mathlib.Core.Path.{_≡_, refl, ap, _∙_}
 use mathlib.Core.Bool.{Bool, true, false}
 use mathlib.Core.List.{List, _++_}
 use mathlib.Core.Option.{Option, none, some}
@@ -19,11 +19,11 @@ use Rattle.rules.specs.Index.Walk.{walkAll}
 use Rattle.rules.specs.Refusals.{Volume}
 use Rattle.rules.specs.Refusals.Laws.{Opens}
 use Rattle.rules.specs.Writing.{lowestUnused, Place, mayGrow, grownPlace, placeFrom, placeRun}
-use Rattle.laws.proofs.Index.ListFacts.{some-same, none-some}
+use Rattle.laws.proofs.Lists.Parts.{some-same, none-some}
 use Rattle.laws.proofs.Index.Items.{slotsIn, slotsIn-append, noFault}
 use Rattle.laws.proofs.Index.Walks.{slots-all}
 use Rattle.laws.proofs.Index.Slots.{items-walk, inner-slots}
-use Rattle.laws.proofs.Index.Unused.{unusedFrom, unusedFrom-slots, Room, lowest-split}
+use Rattle.laws.proofs.Index.Unused.{unusedFrom, unusedFrom-slots, UnusedRun, lowest-split}
 use Rattle.laws.proofs.Entries.Regions.{extend-keeps, extend-covers, extend-fits}
 use Rattle.laws.proofs.Index.Ends.{ends-good}
 use Rattle.laws.proofs.Images.Sizes.{restamp-index, restamp-end, ceiling-same, good-sizes}
@@ -85,10 +85,10 @@ module _ (s : List ℕ) (v : Volume) (o : Opens s v) where
   sound = ends-good s (v .geometry) (v .items) (o .index-sound) .1
 
   -- the unused slots among the items
-  pub unused-room : (slots k : ℕ) → lowestUnused slots (v .items) ≡ some k → Room slots 1 k (v .items)
+  pub unused-room : (slots k : ℕ) → lowestUnused slots (v .items) ≡ some k → UnusedRun slots 1 k (v .items)
   unused-room slots k f = rw walked (lowest-split slots (innerSlots (v .geometry)) 1 (drop (slotAt s (v .geometry) 1) s) k (rw walked at f))
 
-  room-slots : (slots k : ℕ) (r : Room slots 1 k (v .items)) → slotsIn (r .pre) + slots ≤ innerSlots (v .geometry)
+  room-slots : (slots k : ℕ) (r : UnusedRun slots 1 k (v .items)) → slotsIn (r .pre) + slots ≤ innerSlots (v .geometry)
   room-slots slots k r =
       let mid : List Item = unusedFrom k slots in
       let all-of : slotsIn (v .items) ≡ innerSlots (v .geometry) = rw walked (slots-all (innerSlots (v .geometry)) 1 (drop (slotAt s (v .geometry) 1) s) (rw walked at sound)) in

@@ -18,8 +18,7 @@ use Rattle.rules.specs.Regions.{regionGood, apart, blocksOf}
 use Rattle.rules.specs.Refusals.{accepted, Volume, judge}
 use Rattle.rules.specs.Refusals.Laws.{judge-opens}
 use Rattle.rules.specs.Reading.{fileBytes}
-use Rattle.laws.proofs.Lists.Spans.{SameBut, but-part, but-wider, but-splice}
-use Rattle.laws.proofs.Index.ListFacts.{drop-splice}
+use Rattle.laws.proofs.Lists.Spans.{SameBut, but-part, but-wider, but-splice, drop-splice}
 use Rattle.laws.proofs.Entries.Regions.{Within, Regionless, apart-says, region-bytes}
 use Rattle.laws.proofs.Entries.Walked.{Bare}
 use Rattle.laws.proofs.Images.Kept.{index-kept, reopens}

@@ -9,7 +9,7 @@ use lib.ListN.{length, drop}
 use lib.IntN.{ℤ}
 use Rattle.rules.specs.SuperBlock.{Geometry, blockLength, dataEnd, ceilingBlock, restamp, withStamp, putSizes, superBlockAt, magicAt}
 use Rattle.rules.specs.SuperBlock.Laws.{GoodGeometry, SameSealed, block-low, reserved-pos, length-least, length-putSizes, putSizes-before, putSizes-after}
-use Rattle.rules.specs.Index.{slotAt, slotBytes, itemsOf}
+use Rattle.rules.specs.Index.{slotAt, itemsOf}
 use Rattle.rules.specs.Index.Walk.{pick-both}
 use Rattle.laws.proofs.Lists.Spans.{SameBut, but-parts, but-drop}
 use Rattle.laws.proofs.Index.Slots.{slot-first}

@@ -1,11 +1,11 @@
 -- What an entry that the walk gives says of its bytes; and what holds of each entry, however it was read, holds of all.
 use Prim.Native.Nat.{ℕ, zero, suc, _+_, _-_, _*_, _^_, _≤_, _<_}
 use mathlib.Core.Path.{_≡_, refl, sym, ap, _∙_}
-use mathlib.Core.Bool.{Bool, true, false}
+use mathlib.Core.Bool.{true, false}
 use mathlib.Core.List.{List, []}
 use mathlib.Core.Logic.{_⊎_, inl, inr}
 use native.Mathlib.Omega.{arith}
-use lib.ListN.{length, getD, take, drop, length-take, length-drop}
+use lib.ListN.{length, getD, drop, length-take, length-drop}
 use lib.Signed.{mag}
 use Rattle.rules.specs.Lists.{All}
 use Rattle.rules.specs.Lists.Laws.{clash, pick-false, and-true}
@@ -14,32 +14,19 @@ use Rattle.rules.specs.Fields.Laws.{le-lt, upToZero-take}
 use Rattle.rules.specs.Fields.Signed.{signedOf-mag}
 use Rattle.rules.specs.SuperBlock.{Geometry}
 use Rattle.rules.specs.Names.{pathGood}
-use Rattle.rules.specs.Index.{Entry, Item, unused, entry, fault, itemAt, entryAt, unusableAt, runSlots, nameGood, nameField, runType, fileType, directoryType, fileField, typeUnusable, countAt, stampAt, startAt, endAt, lengthAt, slotBytes, followed, walk, itemsOf, entriesOf, walkAll}
+use Rattle.rules.specs.Index.{Entry, Item, unused, entry, fault, itemAt, entryAt, unusableAt, runSlots, nameGood, nameField, runType, fileType, directoryType, fileField, typeUnusable, countAt, stampAt, endAt, lengthAt, slotBytes, followed, walk, itemsOf, entriesOf, walkAll}
 use Rattle.rules.specs.Index.Walk.{pick-both}
 use Rattle.laws.proofs.Index.Items.{item-by}
 
 -- ---- one item is not another
-entryIn : Entry → Item → Entry
-entryIn d (unused k) = d
-entryIn d (entry e) = e
-entryIn d (fault k) = d
+entry-same : (e f : Entry) → entry e ≡ entry f → e ≡ f
+entry-same e f h = cc
 
-pub entry-same : (e f : Entry) → entry e ≡ entry f → e ≡ f
-unfolding entryIn
-entry-same e f h = ap (entryIn e) h
+unused-entry : {X : Type 0} (k : ℕ) (e : Entry) → unused k ≡ entry e → X
+unused-entry k e h = let z : _≡_ {A = ℕ} 0 1 = cc in absurd (omega arith)
 
-isEntry : Item → Bool
-isEntry (unused k) = false
-isEntry (entry e) = true
-isEntry (fault k) = false
-
-pub unused-entry : {X : Type 0} (k : ℕ) (e : Entry) → unused k ≡ entry e → X
-unfolding isEntry
-unused-entry k e h = clash (sym (ap isEntry h))
-
-pub fault-entry : {X : Type 0} (k : ℕ) (e : Entry) → fault k ≡ entry e → X
-unfolding isEntry
-fault-entry k e h = clash (sym (ap isEntry h))
+fault-entry : {X : Type 0} (k : ℕ) (e : Entry) → fault k ≡ entry e → X
+fault-entry k e h = let z : _≡_ {A = ℕ} 0 1 = cc in absurd (omega arith)
 
 -- ---- an entry is a run's or an unusable one's
 pub record IsRun (left k : ℕ) (a : List ℕ) (e : Entry) : Type 0 where
@@ -72,13 +59,6 @@ module _ (left k : ℕ) (a : List ℕ) (e : Entry) (h : IsRun left k a e) where
   unfolding entryAt
   run-kind = rw (h .made)
 
-  pub run-type : runType (e .kind) ≡ true
-  run-type = rw run-kind (h .kinds)
-
-  pub run-slot : e .slot ≡ k
-  unfolding entryAt
-  run-slot = rw (h .made)
-
   pub run-slots : e .slots ≡ 1 + byteAt a countAt
   unfolding entryAt runSlots
   run-slots = rw (h .made)
@@ -102,10 +82,6 @@ module _ (k : ℕ) (a : List ℕ) (e : Entry) (h : IsUnusable k a e) where
   pub unusable-kind : e .kind ≡ typeUnusable
   unfolding unusableAt
   unusable-kind = rw (h .made)
-
-  pub unusable-slot : e .slot ≡ k
-  unfolding unusableAt
-  unusable-slot = rw (h .made)
 
   pub unusable-slots : e .slots ≡ 1
   unfolding unusableAt

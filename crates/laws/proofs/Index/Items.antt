@@ -1,23 +1,19 @@
 -- Laws of one item of the walk: what it is, by its bytes, and that a sound item needs its own slots only.
-use Prim.Native.Nat.{ℕ, _+_, _*_, _≤_, _<_}
+use Prim.Native.Nat.{ℕ, _+_, _≤_, _<_}
 use mathlib.Core.Path.{_≡_, refl, _∙_}
 use mathlib.Core.Bool.{true, false, _&&_, not}
 use mathlib.Core.List.{List, [], _∷_, _++_}
 use native.Mathlib.Omega.{arith}
-use lib.ListN.{length}
-use lib.Seq.{take-append-le}
 use lib.Dec.{eqb, leb}
 use borrow.Author.Tests.{leb-true, eqb-true, eqb-false, not-true}
 use Rattle.rules.specs.Lists.{all, sum}
 use Rattle.rules.specs.Lists.Laws.{clash, and-true, all-append}
 use Rattle.rules.specs.Fields.{byteAt}
-use Rattle.rules.specs.Index.{Item, unused, entry, fault, itemAt, runAt, entryAt, unusableAt, isFault, followed, runSlots, nameGood, nameField, runType, strayType, typeUnusable, slotBytes}
+use Rattle.rules.specs.Index.{Item, unused, entry, fault, itemAt, runAt, entryAt, unusableAt, isFault, followed, runSlots, nameGood, nameField, runType, strayType, typeUnusable}
 use Rattle.rules.specs.Index.Walk.{slotsOf}
-use Rattle.rules.specs.Index.Frame.{item-same}
 use Rattle.rules.specs.Index.Items.{item-run, item-unusable, item-unused}
-use Rattle.laws.proofs.Lists.Parts.{sum-append}
+use Rattle.laws.proofs.Lists.Parts.{sum-append, all-parts}
 use Rattle.laws.proofs.Lists.Every.{pick-by}
-use Rattle.laws.proofs.Index.ListFacts.{all-parts}
 
 -- the slots of items
 unfoldable pub slotsIn : List Item → ℕ
@@ -65,13 +61,6 @@ module _ (left k : ℕ) (a : List ℕ) where
   item-held m =
       item-by left k a (λ i. isFault i ≡ false → slotsOf i ≤ m → itemAt m k a ≡ i)
       (λ r h g e l. item-run m k a r l g) (λ r u e l. item-unusable m k a r u) (λ r u s e l. item-unused m k a r (eqb-false (byteAt a 0) typeUnusable u) s) (λ e l. clash e)
-
--- and with more slots and bytes behind it
-pub item-more : (left more k : ℕ) (a rest : List ℕ) → 0 < left → slotBytes * left ≤ length a → isFault (itemAt left k a) ≡ false → itemAt (left + more) k (a ++ rest) ≡ itemAt left k a
-item-more left more k a rest some room f =
-    let same : itemAt left k (a ++ rest) ≡ itemAt left k a = item-same left k (a ++ rest) a some (take-append-le (slotBytes * left) a rest room) in
-    let g : isFault (itemAt left k (a ++ rest)) ≡ false = rw same f in
-    item-held left k (a ++ rest) (left + more) g (omega (arith, slots-within left k (a ++ rest) some g)) ∙ same
 
 -- ---- items in a row
 pub slotsIn-nil : slotsIn [] ≡ 0

@@ -8,13 +8,12 @@ use native.Mathlib.Omega.{arith}
 use lib.ListN.{drop}
 use Rattle.rules.specs.Lists.{all, any, first, firstIf}
 use Rattle.rules.specs.Lists.Laws.{clash, and-both}
-use Rattle.rules.specs.Index.{Entry, Item, unused, entry, fault, itemAt, entryAt, unusableAt, isFault, followed, entriesOf, runType, slotBytes}
+use Rattle.rules.specs.Index.{Entry, Item, unused, entry, fault, itemAt, entryAt, unusableAt, isFault, followed, entriesOf, slotBytes}
 use Rattle.rules.specs.Index.Walk.{walkAll, walk-step, slotsOf}
 use Rattle.rules.specs.Writing.{itemSlot}
 use Rattle.laws.proofs.Lists.Every.{none-passes, any-none, all-join}
-use Rattle.laws.proofs.Index.ListFacts.{cons-tail, nil-append, some-same, none-some}
+use Rattle.laws.proofs.Lists.Parts.{cons-tail, nil-append, some-same, none-some}
 use Rattle.laws.proofs.Index.Items.{slotsIn, noFault, item-by}
-use Rattle.laws.proofs.Index.Entries.{IsRun, entry-run}
 use Rattle.laws.proofs.Index.Walks.{Split, walk-split, walk-some, walk-first, walk-rest}
 
 -- ---- a walk ends at a fault
@@ -62,11 +61,6 @@ module _ (left k : ℕ) (a : List ℕ) (pre : List Item) (x : Item) (post : List
 
   pub slot-there : itemSlot x ≡ k + slotsIn pre
   slot-there = sym (ap itemSlot item-there) ∙ item-slot (left - slotsIn pre) (k + slotsIn pre) (drop (slotBytes * slotsIn pre) a)
-
--- an entry of a run's type is the run's there
-pub run-there : (left k : ℕ) (a : List ℕ) (pre : List Item) (e : Entry) (post : List Item) → walkAll left k a ≡ pre ++ (entry e ∷ post) → runType (e .kind) ≡ true
-    → IsRun (left - slotsIn pre) (k + slotsIn pre) (drop (slotBytes * slotsIn pre) a) e
-run-there left k a pre e post q t = entry-run _ _ _ e (item-there left k a pre (entry e) post q) t
 
 -- ---- entries
 pub entriesOf-append : (xs ys : List Item) → entriesOf (xs ++ ys) ≡ entriesOf xs ++ entriesOf ys

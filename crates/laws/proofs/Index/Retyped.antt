@@ -1,6 +1,6 @@
 -- Another type and stamp written to a run's first slot: the rest of its entry is as it was. Deleting is a case of it.
 use Prim.Native.Nat.{ℕ, _+_, _-_, _*_, _≤_, _<_}
-use mathlib.Core.Path.{_≡_, refl, sym, ap, _∙_}
+use mathlib.Core.Path.{_≡_, sym, ap, _∙_}
 use mathlib.Core.Bool.{true}
 use mathlib.Core.List.{List, [], _∷_}
 use native.Mathlib.Omega.{arith}
@@ -14,8 +14,7 @@ use Rattle.rules.specs.SuperBlock.Laws.{storedStamp}
 use Rattle.rules.specs.Index.{Entry, entry, itemAt, entryAt, runSlots, nameField, nameAt, fileField, runType, fileType, slotBytes, countAt, stampAt, startAt, endAt, lengthAt, retyped}
 use Rattle.rules.specs.Index.Laws.{name-at-bounds}
 use Rattle.rules.specs.Index.Items.{item-run}
-use Rattle.laws.proofs.Lists.Spans.{SameBut, but-splice, but-wider, but-then, but-drop}
-use Rattle.laws.proofs.Index.ListFacts.{drop-splice-part}
+use Rattle.laws.proofs.Lists.Spans.{SameBut, but-splice, but-wider, but-then, but-drop, drop-splice-part}
 use Rattle.laws.proofs.Index.Entries.{entry-run, run-kind}
 use Rattle.laws.proofs.Index.Runs.{length-stamp}
 

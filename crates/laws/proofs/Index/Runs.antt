@@ -8,12 +8,10 @@ use lib.ListN.{length, replicate, length-append}
 use lib.Seq.{drop-at, take-all}
 use lib.Dec.{eqb}
 use lib.IntN.{ℤ}
-use lib.Signed.{mag}
 use Rattle.rules.specs.Lists.{pick, padded}
 use Rattle.rules.specs.Lists.Laws.{pick-true, pick-false, and-both, or-right, length-padded}
 use Rattle.rules.specs.Fields.{byteAt, le, leBytes, stampIn, stampBytes, upToZero, hasZero}
 use Rattle.rules.specs.Fields.Laws.{length-leBytes, le-append-before, le-append-after, le-between}
-use Rattle.rules.specs.SuperBlock.Laws.{storedStamp, stored-stamp}
 use Rattle.rules.specs.Names.{pathGood}
 use Rattle.rules.specs.Names.Laws.{path-up-to-zero}
 use Rattle.rules.specs.Index.{Entry, entry, itemAt, entryAt, runSlots, nameField, nameAt, nameGood, fileField, runType, fileType, runBytes, continuing, slotBytes, stampAt, startAt, endAt, lengthAt}
@@ -57,11 +55,6 @@ stored e = record {
 pub length-stamp : (z : ℤ) → length (stampBytes z) ≡ 8
 unfolding stampBytes
 length-stamp z = length-leBytes 8 _
-
--- a stamp of 64 bits is read as it was stored
-pub stored-same : (e : Entry) → mag (e .stamp) < 2 ^ 63 → stored e ≡ e
-unfolding stored storedStamp
-stored-same e h = rw (stored-stamp (e .stamp) h)
 
 -- a name stands behind three fields of 8 bytes, or none
 name-behind : (t : Bool) (xs : List ℕ) → length xs ≡ 24 → 10 + length (pick t xs []) ≡ pick t 34 10

@@ -12,7 +12,7 @@ use Rattle.rules.specs.Fields.{byteAt}
 use Rattle.rules.specs.Index.{Item, unused, entry, fault, itemAt, isFault, followed, walk, entriesOf, unusedBytes, typeUnused, slotBytes, runType, directoryType, fileType, strayType}
 use Rattle.rules.specs.Index.Walk.{walkAll, walk-none, slotsOf}
 use Rattle.rules.specs.Writing.{startsUnused, itemSlot, lowestUnused}
-use Rattle.laws.proofs.Index.ListFacts.{some-same, none-some}
+use Rattle.laws.proofs.Lists.Parts.{some-same, none-some}
 use Rattle.laws.proofs.Index.Items.{slotsIn, slotsIn-nil, slotsIn-cons, noFault}
 use Rattle.laws.proofs.Index.Walks.{walk-append, walk-first, walk-rest, walk-split}
 use Rattle.laws.proofs.Index.Places.{before-sound, item-slot, slot-there}
@@ -106,13 +106,13 @@ lowest-start m k (i ∷ is) l = by (startsUnused m (i ∷ is)) refl (λ g. lowes
         }
 
 -- m unused slots from slot k on, among the items that start with slot j
-pub record Room (m j k : ℕ) (is : List Item) : Type 0 where
+pub record UnusedRun (m j k : ℕ) (is : List Item) : Type 0 where
   pub pre : List Item
   pub post : List Item
   pub split : is ≡ pre ++ (unusedFrom k m ++ post)
   pub place : k ≡ j + slotsIn pre
 
-pub lowest-split : (m left j : ℕ) (a : List ℕ) (k : ℕ) → lowestUnused m (walkAll left j a) ≡ some k → Room m j k (walkAll left j a)
+pub lowest-split : (m left j : ℕ) (a : List ℕ) (k : ℕ) → lowestUnused m (walkAll left j a) ≡ some k → UnusedRun m j k (walkAll left j a)
 lowest-split m left j a k l =
     let f = lowest-start m k (walkAll left j a) l in
     let place : k ≡ j + slotsIn (f .pre) = sym (f .slot) ∙ slot-there left j a (f .pre) (f .item) (f .post) (f .split) in

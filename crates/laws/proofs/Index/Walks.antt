@@ -6,12 +6,13 @@ use mathlib.Core.List.{List, [], _∷_, _++_, append-nil}
 use native.Mathlib.Omega.{arith}
 use native.Mathlib.Nat.{add-zero, zero-add, sub-zero}
 use lib.ListN.{length, take, drop}
-use lib.Seq.{take-take, drop-drop, drop-at, take-append-le}
+use lib.Seq.{drop-drop, drop-at, take-append-le}
 use Rattle.rules.specs.Fields.{splice}
 use Rattle.rules.specs.Index.{Item, itemAt, isFault, slotBytes}
 use Rattle.rules.specs.Index.Walk.{walkAll, walk-none, walk-step, slotsOf, slots-pos}
 use Rattle.rules.specs.Index.Frame.{walk-same}
-use Rattle.laws.proofs.Index.ListFacts.{cons-head, cons-tail, nil-cons, all-parts, take-splice, drop-splice}
+use Rattle.laws.proofs.Lists.Parts.{cons-head, cons-tail, nil-cons, all-parts}
+use Rattle.laws.proofs.Lists.Spans.{take-splice, drop-splice}
 use Rattle.laws.proofs.Index.Items.{slotsIn, slotsIn-nil, slotsIn-cons, noFault, noFault-cons, followed-on, followed-head, slots-within, item-held}
 
 -- ---- a walk begins with the item at its start
@@ -90,7 +91,7 @@ walk-more-by (suc f) (suc m) left k a p s =
         rw (e₁, e₂, drop-slots n (suc m - n) a, e₃) at rec
 
 -- the walk of m + left slots, where the first m have no fault
-pub walk-more : (m left k : ℕ) (a : List ℕ) → noFault (walkAll m k a)
+walk-more : (m left k : ℕ) (a : List ℕ) → noFault (walkAll m k a)
     → walkAll (m + left) k a ≡ walkAll m k a ++ walkAll left (k + m) (drop (slotBytes * m) a)
 walk-more m left k a s = walk-more-by m m left k a (omega arith) s
 
@@ -145,10 +146,6 @@ walk-split left k a (x ∷ pre) post e s =
     let fine = noFault-cons x pre s in
     split-cons left k a x (pre ++ post) e (fine .0) pre post
     (walk-split (left - slotsOf x) (k + slotsOf x) (drop (slotBytes * slotsOf x) a) pre post (walk-rest left k a x (pre ++ post) e (fine .0)) (fine .1))
-
--- the slots' own bytes are all that a walk of them needs
-pub walk-taken : (left k : ℕ) (a : List ℕ) → walkAll left k (take (slotBytes * left) a) ≡ walkAll left k a
-walk-taken left k a = walk-same left k (take (slotBytes * left) a) a (take-take (slotBytes * left) (slotBytes * left) a (omega arith))
 
 -- a walk without a fault covers its slots
 pub slots-all : (left k : ℕ) (a : List ℕ) → noFault (walkAll left k a) → slotsIn (walkAll left k a) ≡ left

@@ -1,11 +1,11 @@
 -- What another order of the elements keeps. Assumes nothing.
-use Prim.Native.Nat.{ℕ, suc, _+_, max}
+use Prim.Native.Nat.{ℕ, suc, _+_}
 use mathlib.Core.Path.{_≡_, refl, ap, _∙_}
 use mathlib.Core.Bool.{Bool, true, false, _&&_, _||_}
 use mathlib.Core.List.{List, [], _∷_, _++_, map}
 use native.Mathlib.Omega.{arith}
 use lib.ListN.{length}
-use Rattle.rules.specs.Lists.{all, any, everyTwo, keepIf, only, sum, largest, All, Pairs, Perm, same, keep, swap, thus}
+use Rattle.rules.specs.Lists.{all, any, everyTwo, keepIf, only, sum, All, Pairs, Perm, same, keep, swap, thus}
 use Rattle.laws.proofs.Lists.Every.{same-test, two-says, two-holds}
 
 and-turn : (a b c : Bool) → (a && (b && c)) ≡ (b && (a && c))
@@ -54,13 +54,6 @@ module _ {A : Type 0} where
   perm-sum f swap = omega arith
   perm-sum f (thus p q) = perm-sum f p ∙ perm-sum f q
 
-  pub perm-largest : (f : A → ℕ) {xs ys : List A} → Perm xs ys → largest f xs ≡ largest f ys
-  unfolding largest
-  perm-largest f same = refl
-  perm-largest f (keep {x = x} p) = ap (max (f x)) (perm-largest f p)
-  perm-largest f swap = omega arith
-  perm-largest f (thus p q) = perm-largest f p ∙ perm-largest f q
-
   -- ---- tests
   pub perm-every : (p : A → Bool) {xs ys : List A} → Perm xs ys → all p xs ≡ all p ys
   unfolding all
@@ -102,24 +95,10 @@ module _ {A : Type 0} where
   perm-only p (swap {x = x} {y = y} {xs = xs}) = keep-swap (p x) (p y) x y (only p xs)
   perm-only p (thus q r) = thus (perm-only p q) (perm-only p r)
 
-  -- ---- appending
   -- an element put in the middle
   pub perm-insert : (x : A) (xs ys : List A) → Perm (x ∷ (xs ++ ys)) (xs ++ (x ∷ ys))
   perm-insert x [] ys = same
   perm-insert x (y ∷ xs) ys = thus swap (keep (perm-insert x xs ys))
-
-  perm-behind : (xs : List A) {ys zs : List A} → Perm ys zs → Perm (xs ++ ys) (xs ++ zs)
-  perm-behind [] p = p
-  perm-behind (x ∷ xs) p = keep (perm-behind xs p)
-
-  perm-before : (zs : List A) {xs ys : List A} → Perm xs ys → Perm (xs ++ zs) (ys ++ zs)
-  perm-before zs same = same
-  perm-before zs (keep p) = keep (perm-before zs p)
-  perm-before zs swap = swap
-  perm-before zs (thus p q) = thus (perm-before zs p) (perm-before zs q)
-
-  pub perm-append : {xs ys us vs : List A} → Perm xs ys → Perm us vs → Perm (xs ++ us) (ys ++ vs)
-  perm-append {xs} {ys} {us} {vs} p q = thus (perm-before us p) (perm-behind ys q)
 
 pub perm-map : {A B : Type 0} (f : A → B) {xs ys : List A} → Perm xs ys → Perm (map f xs) (map f ys)
 perm-map f same = same

@@ -2,18 +2,53 @@
 -- Every law about a call's writes is one of these spans: the sizes, the marker, a run, the blocks of a region.
 use Prim.Native.Nat.{ℕ, _+_, _-_, _≤_, _<_}
 use mathlib.Core.Path.{_≡_, refl, sym, ap, _∙_}
-use mathlib.Core.List.{List}
+use mathlib.Core.List.{List, _++_, append-assoc}
 use mathlib.Core.Logic.{_⊎_, inl, inr}
 use native.Mathlib.Omega.{arith}
 use lib.ListN.{length, take, drop, length-drop}
-use lib.Seq.{drop-drop, take-all}
+use lib.Seq.{take-at, drop-at, take-take, drop-drop, take-add, take-all, drop-append-add, length-take-le}
 use Rattle.rules.specs.Lists.{part}
 use Rattle.rules.specs.Lists.Laws.{drop-take}
 use Rattle.rules.specs.Fields.{byteAt, splice}
 use Rattle.rules.specs.Fields.Laws.{length-splice}
 use Rattle.rules.specs.Index.Frame.{byte-same, take-same}
 use Rattle.rules.specs.Index.Items.{type-drop}
-use Rattle.laws.proofs.Index.ListFacts.{take-splice-before, drop-splice-after}
+
+-- ---- what was written, from the front and from behind
+module _ (s : List ℕ) (at : ℕ) (bs : List ℕ) (h : at ≤ length s) where
+  pub take-splice : take at (splice s at bs) ≡ take at s
+  unfolding splice
+  take-splice = take-at (take at s) (bs ++ drop (at + length bs) s) at (length-take-le at s h)
+
+  pub take-splice-before : (n : ℕ) → n ≤ at → take n (splice s at bs) ≡ take n s
+  take-splice-before n l = sym (take-take n at (splice s at bs) l) ∙ ap (take n) take-splice ∙ take-take n at s l
+
+  pub drop-splice : drop at (splice s at bs) ≡ bs ++ drop (at + length bs) s
+  unfolding splice
+  drop-splice = drop-at (take at s) (bs ++ drop (at + length bs) s) at (length-take-le at s h)
+
+  pub drop-splice-after : (n : ℕ) → at + length bs ≤ n → drop n (splice s at bs) ≡ drop n s
+  drop-splice-after n l =
+      let r : ℕ = n - (at + length bs) in
+      let e₁ : n ≡ at + (length bs + r) = omega arith in
+      let e₂ : at + length bs + r ≡ n = omega arith in
+      ap (λ (j : ℕ). drop j (splice s at bs)) e₁
+      ∙ sym (drop-drop (length bs + r) at (splice s at bs))
+      ∙ ap (drop (length bs + r)) drop-splice
+      ∙ drop-append-add bs (drop (at + length bs) s) r
+      ∙ drop-drop r (at + length bs) s
+      ∙ ap (λ (j : ℕ). drop j s) e₂
+
+-- a part's writing is the whole's, further on
+pub drop-splice-part : (n : ℕ) (s : List ℕ) (at : ℕ) (bs : List ℕ) → n ≤ length s → drop n (splice s (n + at) bs) ≡ splice (drop n s) at bs
+unfolding splice
+drop-splice-part n s at bs h =
+    let r : List ℕ = bs ++ drop (n + at + length bs) s in
+    let e : n + at + length bs ≡ n + (at + length bs) = omega arith in
+    ap (λ (xs : List ℕ). drop n (xs ++ r)) (take-add n at s)
+    ∙ ap (drop n) (append-assoc (take n s) (take at (drop n s)) r)
+    ∙ drop-at (take n s) (take at (drop n s) ++ r) n (length-take-le n s h)
+    ∙ ap (λ (xs : List ℕ). take at (drop n s) ++ (bs ++ xs)) (ap (λ (j : ℕ). drop j s) e ∙ sym (drop-drop (at + length bs) n s))
 
 -- ---- alike from a place on
 module _ (s t : List ℕ) (at : ℕ) (same : drop at t ≡ drop at s) where

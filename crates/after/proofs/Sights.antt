@@ -1,20 +1,28 @@
--- Unusable regions are as they were where entries change in place, and no file or directory has one. Assumes nothing.
+-- What is seen of an entry depends on its bytes; unusable regions are as they were where entries change in place, and no file or directory has one. Assumes nothing.
 use Prim.Native.Nat.{ℕ}
-use mathlib.Core.Path.{_≡_, refl, sym, ap, ap₂, _∙_}
+use mathlib.Core.Path.{_≡_, refl, ap, ap₂, _∙_}
 use mathlib.Core.Bool.{Bool, true, false, _&&_, not}
 use mathlib.Core.List.{List, _∷_, map}
 use lib.Dec.{eqb}
-use borrow.Author.Tests.{eqb-true, ne-eqb}
-use Rattle.rules.specs.Lists.{only, keepIf, Perm}
+use borrow.Author.Tests.{eqb-true}
+use Rattle.rules.specs.Lists.{only}
 use Rattle.rules.specs.Lists.Laws.{only-no}
-use Rattle.rules.specs.Index.{Entry, fileType, directoryType, runType, deletedType, typeUnusable}
+use Rattle.rules.specs.SuperBlock.{Geometry}
+use Rattle.rules.specs.Index.{Entry, runType, deletedType, typeUnusable}
+use Rattle.rules.specs.Reading.{fileBytes}
 use Rattle.rules.specs.Writing.{isDeleted, undeleted}
-use Rattle.after.specs.After.{Extent, extentOf, isUnusable}
+use Rattle.after.specs.After.{seen, Extent, extentOf, isUnusable}
 use Rattle.laws.proofs.Lists.Parts.{map-map, only-map, only-only, only-ext}
 use Rattle.laws.proofs.Lists.Every.{map-ext, all-of}
 use Rattle.laws.proofs.Entries.EntryKinds.{run-usable}
 use Rattle.laws.proofs.Entries.Regions.{SameRegion}
 
+-- ---- what is seen
+pub seen-same : (s t : List ℕ) (g h : Geometry) (e : Entry) → fileBytes t h e ≡ fileBytes s g e → seen t h e ≡ seen s g e
+unfolding seen
+seen-same s t g h e same = rw same
+
+-- ---- unusable regions
 abbrev pub extentsOf : List Entry → List Extent
 extentsOf es = map extentOf (only isUnusable es)
 
