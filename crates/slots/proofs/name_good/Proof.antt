@@ -2,8 +2,8 @@ use mathlib.Core.Path.{sym, _∙_}
 use Rattle.rules.specs.Index.Items.{name-unended, name-ended}
 use lib.Seq.{length-take-le}
 use borrow.Author.Needs.{needs}
-use Rattle.index.proofs.name_good.Statement.{statement}
-use Rattle.index.proofs.name_good.Tie as tie
+use Rattle.slots.proofs.name_good.Statement.{statement}
+use Rattle.slots.proofs.name_good.Tie as tie
 
 zero-at-requires : tie.Need-zero-at-requires
 zero-at-requires c κs = search needs
