@@ -2,10 +2,10 @@
 
 use geometry::Geometry;
 use index::Cursor;
-use index::Head;
 use index::Next;
 use judging::Judged;
 use paths::Search;
+use slots::Head;
 use units::Block;
 use units::Offset;
 ghost use mathlib.Core.Path.{_≡_};
@@ -13,22 +13,14 @@ ghost use Prim.Native.Nat.{_+_, _*_, _≤_};
 ghost use lib.ListN.{length};
 ghost use Rattle.rules.specs.Fields.{splice, signedOf};
 ghost use Rattle.rules.specs.SuperBlock.{Geometry as Sizes};
-ghost use Rattle.rules.specs.Index.{deletedType, slotAt, unusedBytes};
-ghost use Rattle.rules.specs.Writing.{deletedKind, deleteOf, cleared, reclaimOf};
+ghost use Rattle.rules.specs.Index.{deletedType, slotAt, unusedBytes, retyped};
+ghost use Rattle.rules.specs.Writing.{deletedKind, deleteOf, isDeleted, cleared, reclaimOf};
 ghost use Rattle.rules.specs.Writing.Laws.{writtenAs};
 ghost use Rattle.geometry.specs.View.{geometryView};
 ghost use Rattle.index.specs.Steps.{Walks, HeadIn, entriesFrom};
 ghost use Rattle.judging.specs.View.{Opened};
-ghost use Rattle.erasing.specs.Delete.{markedAt, Planned};
+ghost use Rattle.erasing.specs.Delete.{Planned};
 ghost use Rattle.erasing.specs.Reclaim.{headCleared, reclaimed};
-
-// The last version that may be written.
-const VERSION: u8 = 0x10;
-
-// The place of an entry's stamp in its first slot.
-const STAMP: usize = 2;
-
-const SLOT: usize = 64;
 
 // ---- delete
 
@@ -42,7 +34,7 @@ fn plan_entry(img: &[u8], g: Geometry, path: &[u8]) -> Doom
     requires { ⌜ Opened (now img) g ⌝ }
     ensures { λ r. ⌜ Planned (now (img .entry)) (now (path .entry)) r ⌝ }
 {
-    if VERSION < g.version {
+    if !g.is_writable() {
         return Doom::Refused(9);
     }
     if !names::path_good(path) {
@@ -70,15 +62,6 @@ fn plan_delete(img: &[u8], path: &[u8]) -> Doom
     }
 }
 
-// The type and the stamp of an entry that is deleted.
-fn mark(img: &mut [u8], at: usize, kind: u8, stamp: u64)
-    requires { ⌜ at + 64 ≤ length (now img) ⌝ }
-    ensures { λ _. ⌜ now (img .exit) ≡ markedAt (now (img .entry)) at kind (signedOf stamp) ⌝ }
-{
-    fields::put_le(img, at, 1, fields::wide(slots::deleted_kind(kind)));
-    fields::put_le(img, at + STAMP, 8, stamp);
-}
-
 // The refusal, 0 on success; `stamp` is the stamp's 64 bits.
 pub fn delete(img: &mut [u8], path: &[u8], stamp: u64) -> u32
     ensures { λ r. ⌜ writtenAs r (now (img .exit)) ≡ deleteOf (now (img .entry)) (now (path .entry)) (signedOf stamp) ⌝ }
@@ -86,7 +69,7 @@ pub fn delete(img: &mut [u8], path: &[u8], stamp: u64) -> u32
     match plan_delete(img, path) {
         Doom::Refused(n) => n as u32,
         Doom::At(at, kind) => {
-            mark(img, at.0, kind, stamp);
+            runs::retype(img, at, slots::deleted_kind(kind), stamp);
             0
         }
     }
@@ -94,34 +77,20 @@ pub fn delete(img: &mut [u8], path: &[u8], stamp: u64) -> u32
 
 // ---- reclaim
 
-// So many slots from `at` on become unused.
-fn clear_run(img: &mut [u8], at: usize, slots: u64)
-    requires { ⌜ at + 64 * slots ≤ length (now img) ⌝ }
-    ensures { λ _. ⌜ now (img .exit) ≡ splice (now (img .entry)) at (unusedBytes slots) ⌝ }
-{
-    let mut place = at;
-    let mut left = slots;
-    while 0 < left {
-        copying::write_part(img, place, place + SLOT, b"\x10");
-        place += SLOT;
-        left -= 1;
-    }
-}
-
 // The run of an entry is cleared if it is deleted.
 fn clear_head(img: &mut [u8], h: Head)
     requires { ⌜ HeadIn (now img) h ⌝ }
     ensures { λ _. ⌜ now (img .exit) ≡ headCleared (now (img .entry)) h ⌝ }
 {
     if slots::is_deleted(h.kind) {
-        clear_run(img, h.at.0, h.slots);
+        runs::clear_run(img, h.at, h.slots);
     }
 }
 
 // Every deleted run from the cursor on is cleared. What is cleared lies before the cursor that the walk goes on from.
 fn clear_deleted(img: &mut [u8], from: Cursor)
     requires { ⌜ Walks (now img) from ⌝ }
-    ensures { λ _. ⌜ ((g : Sizes) → from .at .0 ≡ slotAt (now (img .entry)) g (from .slot .0) → now (img .exit) ≡ cleared (now (img .entry)) g (entriesFrom (now (img .entry)) from)) ⌝ }
+    ensures { λ _. ⌜ ((g : Sizes) → from .at .0 ≡ slotAt (now (img .entry)) g (from .slot .0) → now (img .exit) ≡ cleared isDeleted (now (img .entry)) g (entriesFrom (now (img .entry)) from)) ⌝ }
 {
     let mut c = from;
     loop {
@@ -154,7 +123,7 @@ pub fn reclaim(img: &mut [u8], stamp: u64) -> u32
     match judging::judge(img) {
         Judged::Refused(n) => n as u32,
         Judged::Good(g) => {
-            if VERSION < g.version {
+            if !g.is_writable() {
                 return 9;
             }
             write_reclaimed(img, g, stamp);

@@ -5,7 +5,7 @@ ghost use mathlib.Core.Path.{_≡_};
 ghost use Prim.Native.Nat.{_+_, _-_, _*_, _≤_, _<_, _^_};
 ghost use mathlib.Core.Bool.{true};
 ghost use lib.Dec.{eqb, leb};
-ghost use Rattle.rules.specs.SuperBlock.{blockLength, ceilingBlock, indexGood, geometryGood, growIndex, extendData, trimData, withStamp, restamp};
+ghost use Rattle.rules.specs.SuperBlock.{writable, blockLength, ceilingBlock, indexGood, geometryGood, growIndex, extendData, trimData, withStamp, restamp};
 ghost use Rattle.rules.specs.Fields.{signedOf};
 ghost use Rattle.geometry.specs.View.{geometryView, areasFit};
 
@@ -88,6 +88,13 @@ impl Geometry {
         ensures { λ r. ⌜ r .0 ≡ ceilingBlock n (geometryView self) ⌝ }
     {
         Block((n - self.index) / self.block_length())
+    }
+
+    // Whether a volume of this geometry may be written.
+    pub fn is_writable(self) -> bool
+        ensures { λ r. ⌜ r ≡ writable (geometryView self) ⌝ }
+    {
+        self.version <= 0x10
     }
 
     // Whether the geometry is good for an image of n bytes, at any 64-bit values.
