@@ -30,14 +30,6 @@ use Rattle.erasing.specs.declared.Doom.{Doom}
 use Rattle.erasing.specs.declared.Doom.the-variants.{Refused, At}
 
 -- ---- the nine bytes
-pub kind-file : (t : ℕ) → fileType t ≡ true → typeDeletedFile ≡ deletedKind t
-unfolding deletedKind
-kind-file t f = sym (pick-true _ _ f)
-
-pub kind-directory : (t : ℕ) → fileType t ≡ false → typeDeletedDirectory ≡ deletedKind t
-unfolding deletedKind
-kind-directory t f = sym (pick-false _ _ f)
-
 pub retyped-as : (s u : List ℕ) (at b kind : ℕ) (z : ℤ) → b ≡ kind → u ≡ retyped s at b z → u ≡ retyped s at kind z
 retyped-as s u at b kind z e f = f ∙ ap (λ t. retyped s at t z) e
 

@@ -34,14 +34,6 @@ use Rattle.laws.proofs.Images.Sizes.{restamp-index, sizes-long}
 unfoldable pub headCleared : List ℕ → Head → List ℕ
 headCleared s h = pick (deletedType (h .kind)) (splice s (h .at .0) (unusedBytes (h .slots))) s
 
-pub deleted-directory : (t : ℕ) → t ≡ 0x19 → true ≡ deletedType t
-unfolding deletedType
-deleted-directory t e = rw (eq-eqb t 0x19 e)
-
-pub deleted-other : (t : ℕ) → (t ≡ 0x19 → ⊥) → eqb t 0x1A ≡ deletedType t
-unfolding deletedType
-deleted-other t d = rw (ne-eqb t 0x19 d)
-
 -- what is written lies before the place n
 module _ (s : List ℕ) (h : Head) (head : HeadIn s h) where
   cleared-long : length (headCleared s h) ≡ length s
