@@ -27,19 +27,6 @@ pub struct Site {
     pub end: Block,
 }
 
-// ---- the start marker
-
-// It moves with the index's start.
-fn move_marker(img: &mut [u8], old: Geometry, new: Geometry)
-    requires { ⌜ (64 ≤ new .index) × (new .index ≤ length (now img)) × (length (now img) ≤ 16_777_216) ⌝ }
-    ensures { λ _. ⌜ now (img .exit) ≡ putMarker (now (img .entry)) (geometryView old) (geometryView new) ⌝ }
-{
-    if old.index != new.index {
-        let start = units::index_start(img.len() as u64, new.index);
-        runs::put_marker(img, start);
-    }
-}
-
 // ---- the blocks
 
 // The bytes, and zeros to the end of the last block: the region is lent on as a part of the image.
@@ -75,7 +62,7 @@ fn put_new(img: &mut [u8], p: Site, kind: u8, path: &[u8], bytes: &[u8], stamp: 
         length: bytes.len() as u64,
     };
     super_block::put_sizes(img, p.new);
-    move_marker(img, p.old, p.new);
+    ends::move_marker(img, p.old, p.new);
     runs::put_run(img, h, path);
     put_blocks(img, p, bytes);
 }
