@@ -159,8 +159,8 @@ impl Offset {
 
 // Where an index area of `index` bytes starts, at the end of an image of `image` bytes.
 pub fn index_start(image: u64, index: u64) -> Offset
-    requires { ⌜ (index ≤ image) × (image ≤ 16_777_216) ⌝ }
-    ensures { λ r. ⌜ (r .0 ≡ image - index) × (r .0 ≤ 16_777_216) ⌝ }
+    requires { ⌜ index ≤ image ⌝ }
+    ensures { λ r. ⌜ r .0 ≡ image - index ⌝ }
 {
     Offset((image - index) as usize)
 }
