@@ -2,9 +2,9 @@
 
 use units::Block;
 ghost use mathlib.Core.Path.{_≡_};
-ghost use Prim.Native.Nat.{_+_, _-_, _*_, _≤_, _<_, _^_};
+ghost use Prim.Native.Nat.{_+_, _*_, _≤_, _<_, _^_};
 ghost use mathlib.Core.Bool.{true};
-ghost use lib.Dec.{eqb, leb};
+ghost use lib.Dec.{eqb};
 ghost use Rattle.rules.specs.SuperBlock.{blockLength, dataEnd, ceilingBlock, indexGood, geometryGood, growIndex, extendData, trimData, withStamp, restamp};
 ghost use Rattle.rules.specs.Fields.{signedOf};
 ghost use Rattle.geometry.specs.View.{geometryView, areasFit};
@@ -107,7 +107,7 @@ impl Geometry {
 
     // The first block past the data area.
     pub fn data_end(self) -> Block
-        requires { ⌜ self .reserved + self .«data» ≤ 16_777_216 ⌝ }
+        requires { ⌜ self .reserved + self .«data» < 2 ^ 64 ⌝ }
         ensures { λ r. ⌜ r .0 ≡ dataEnd (geometryView self) ⌝ }
     {
         self.data_start().after(self.data)
@@ -156,8 +156,7 @@ impl Geometry {
         if n < self.index {
             return false;
         }
-        let ceiling = self.ceiling(n);
-        sum_at_most(self.reserved as u64, self.data, ceiling.number())
+        self.data_start().has_room(self.data, self.ceiling(n))
     }
 }
 
@@ -170,16 +169,6 @@ fn is_product(total: u64, len: u64, n: u64) -> bool
         return false;
     }
     total == n / len
-}
-
-// Whether a + b is at most c; the sum may pass 64 bits.
-fn sum_at_most(a: u64, b: u64, c: u64) -> bool
-    ensures { λ r. ⌜ r ≡ leb (a + b) c ⌝ }
-{
-    if c < a {
-        return false;
-    }
-    b <= c - a
 }
 
 // Whether an index area may have so many bytes.

@@ -22,26 +22,20 @@ returns-2 : tie.Need-returns-2
 unfolding areasFit
 returns-2 c = rw (sized (c .before .before), lt-leb _ _ (c .if2 .taken))
 
-index-fits : (c : tie.Else2) → let a = c .before .before .before .before .args in (indexGood (a .self .index) && leb (a .self .index) (a .n)) ≡ true
-index-fits c = rw (sized (c .before .before)) (le-leb _ _ (c .if2 .left))
+data-start-requires : tie.Need-data-start-requires
+data-start-requires c κs = search needs
 
 ceiling-requires : tie.Need-ceiling-requires
 ceiling-requires c κs = search needs
 
-cast-sum-at-most : tie.Need-cast-sum-at-most
-cast-sum-at-most c = search needs
-
-number-requires : tie.Need-number-requires
-number-requires c κs = search needs
-
-sum-at-most-requires : tie.Need-sum-at-most-requires
-sum-at-most-requires c κs = search needs
+has-room-requires : tie.Need-has-room-requires
+has-room-requires c κs = search needs
 
 returns-3 : tie.Need-returns-3
 unfolding areasFit dataEnd
 returns-3 c =
-    let l = c .before .before .before in
-    rw (index-fits (l .before), ← l .ceiling .ensures, ← c .before .number .ensures) (c .sum-at-most .ensures)
+    let e = c .before .before .before in
+    rw (sized (e .before .before), le-leb _ _ (e .if2 .left), ← c .before .ceiling .ensures, ← c .before .before .data-start .ensures) (c .has-room .ensures)
 
 pub areas-fit-spec : {M : Type 1} → statement M
 areas-fit-spec =
@@ -50,8 +44,7 @@ areas-fit-spec =
     index-good-requires
     returns
     returns-2
+    data-start-requires
     ceiling-requires
-    cast-sum-at-most
-    number-requires
-    sum-at-most-requires
+    has-room-requires
     returns-3)
