@@ -5,9 +5,9 @@ use Prim.Native.String.{String}
 use mathlib.Core.List.{List, [], _∷_}
 use Rattle.rules.specs.Lists.{pick, all, any, everyTwo, keepIf, only, firstIf, first, isSome, sum, largest, eqList, part, padded}
 use Rattle.rules.specs.Fields.{byteAt, le, leBytes, splice, signedOf, bitsOf, stampIn, stampBytes, byteSum, checks, checksumOf, upToZero, hasZero}
-use Rattle.rules.specs.SuperBlock.{lengthGood, geometryOf, blockBytes, blockLength, ceilingBlock, dataEnd, indexGood, geometryGood, fieldOf, withIndex, withData, withStamp, growIndex, extendData, trimData, restamp, sizesBytes, summedBytes, superBlockBytes, putSizes}
+use Rattle.rules.specs.SuperBlock.{lengthGood, writable, geometryOf, blockBytes, blockLength, ceilingBlock, dataEnd, indexGood, geometryGood, fieldOf, withIndex, withData, withStamp, growIndex, extendData, trimData, restamp, sizesBytes, summedBytes, superBlockBytes, putSizes}
 use Rattle.rules.specs.Names.{isMark, byteGood, textGood, intoFirst, parts, partGood, pathGood, newPathGood, volumeTextGood, volumeNameGood, leadIf, leading, isBelow}
-use Rattle.rules.specs.Index.{fileType, directoryType, runType, liveType, deletedType, strayType, nameAt, runSlots, nameField, fileField, entryAt, unusableAt, nameGood, runAt, itemAt, followed, walk, slotAt, innerSlots, itemsOf, entriesOf, isFault, identifierAt, volumeField, volumeName, volumeStamp, identifierGood, markerGood, indexSound, markerBytes, identifierBytes, unusedBytes, continuing, runBytes}
+use Rattle.rules.specs.Index.{fileType, directoryType, runType, liveType, deletedType, strayType, nameAt, runSlots, nameField, fileField, entryAt, unusableAt, nameGood, runAt, itemAt, followed, walk, slotAt, innerSlots, itemsOf, entriesOf, isFault, identifierAt, volumeField, volumeName, volumeStamp, identifierGood, markerGood, indexSound, markerBytes, identifierBytes, unusedBytes, continuing, runBytes, retyped}
 use Rattle.rules.specs.Regions.{holds, blocksOf, withinData, fileRegionGood, regionGood, apart, regionsSound, heldBlocks, busy, runFree, lowestFrom, lowestFree, blocksNeeded}
 use Rattle.rules.specs.Paths.{isLive, liveAt, lookup, isDirectoryAt, directoryLive, directoriesLive, pathsDiffer, pathsSound, anyBelow, nextLive}
 use Rattle.rules.specs.Refusals.{need, needFound, andThen, magicGood, versionGood, checksumGood, judgeIndex, judgeGeometry, judge}
@@ -29,13 +29,13 @@ unfolding
     text
     pick all any everyTwo keepIf only firstIf first isSome sum largest eqList part padded
     byteAt le leBytes splice signedOf bitsOf stampIn stampBytes byteSum checks checksumOf upToZero hasZero
-    lengthGood geometryOf blockBytes blockLength ceilingBlock dataEnd indexGood geometryGood fieldOf withIndex withData
+    lengthGood writable geometryOf blockBytes blockLength ceilingBlock dataEnd indexGood geometryGood fieldOf withIndex withData
     withStamp growIndex extendData trimData restamp sizesBytes summedBytes superBlockBytes putSizes
     isMark byteGood textGood intoFirst parts partGood pathGood newPathGood volumeTextGood volumeNameGood leadIf leading
     isBelow
     fileType directoryType runType liveType deletedType strayType nameAt runSlots nameField fileField entryAt unusableAt
     nameGood runAt itemAt followed walk slotAt innerSlots itemsOf entriesOf isFault identifierAt volumeField volumeName
-    volumeStamp identifierGood markerGood indexSound markerBytes identifierBytes unusedBytes continuing runBytes
+    volumeStamp identifierGood markerGood indexSound markerBytes identifierBytes unusedBytes continuing runBytes retyped
     holds blocksOf withinData fileRegionGood regionGood apart regionsSound heldBlocks busy runFree lowestFrom lowestFree
     blocksNeeded
     isLive liveAt lookup isDirectoryAt directoryLive directoriesLive pathsDiffer pathsSound anyBelow nextLive

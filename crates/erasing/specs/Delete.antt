@@ -8,11 +8,11 @@ use native.Mathlib.Omega.{arith}
 use lib.ListN.{length, drop}
 use lib.IntN.{ℤ}
 use Rattle.rules.specs.Lists.Laws.{pick-true, pick-false}
-use Rattle.rules.specs.Fields.{splice, signedOf, stampBytes, leBytes}
-use Rattle.rules.specs.SuperBlock.{Geometry, version10}
+use Rattle.rules.specs.Fields.{splice, signedOf, leBytes}
+use Rattle.rules.specs.SuperBlock.{Geometry, writable}
 use Rattle.rules.specs.SuperBlock.Laws.{GoodGeometry}
 use Rattle.rules.specs.Names.{pathGood}
-use Rattle.rules.specs.Index.{Entry, entry, fileType, itemsOf, entriesOf, innerSlots, slotAt, stampAt, typeDeletedFile, typeDeletedDirectory, identifierAt}
+use Rattle.rules.specs.Index.{Entry, entry, fileType, itemsOf, entriesOf, innerSlots, slotAt, typeDeletedFile, typeDeletedDirectory, identifierAt, retyped}
 use Rattle.rules.specs.Index.Walk.{walkAll}
 use Rattle.rules.specs.Paths.{lookup, liveAt, anyBelow}
 use Rattle.rules.specs.Refusals.{entries}
@@ -31,9 +31,6 @@ use Rattle.erasing.specs.declared.Doom.{Doom}
 use Rattle.erasing.specs.declared.Doom.the-variants.{Refused, At}
 
 -- ---- the nine bytes
-unfoldable pub markedAt : List ℕ → ℕ → ℕ → ℤ → List ℕ
-markedAt s at t z = splice (splice s at (deletedKind t ∷ [])) (at + stampAt) (stampBytes z)
-
 pub kind-file : (t : ℕ) → fileType t ≡ true → typeDeletedFile ≡ deletedKind t
 unfolding deletedKind
 kind-file t f = sym (pick-true _ _ f)
@@ -43,10 +40,13 @@ unfolding deletedKind
 kind-directory t f = sym (pick-false _ _ f)
 
 -- written as fields of one byte and of eight
-pub marked-put : (s t u : List ℕ) (at b kind bits : ℕ) → b ≡ deletedKind kind → b < 256 → bits < 2 ^ 64
-    → t ≡ splice s at (leBytes 1 b) → u ≡ splice t (at + 2) (leBytes 8 bits) → u ≡ markedAt s at kind (signedOf bits)
-unfolding markedAt
-marked-put s t u at b kind bits is low fit e f = rw (f, e, byte-alone b low, is, stamp-bits bits fit)
+pub retyped-put : (s t u : List ℕ) (at b kind bits : ℕ) → b ≡ kind → b < 256 → bits < 2 ^ 64
+    → t ≡ splice s at (leBytes 1 b) → u ≡ splice t (at + 2) (leBytes 8 bits) → u ≡ retyped s at kind (signedOf bits)
+unfolding retyped
+retyped-put s t u at b kind bits is low fit e f = rw (f, e, byte-alone b low, is, stamp-bits bits fit)
+
+pub retyped-as : (s u : List ℕ) (at b kind : ℕ) (z : ℤ) → b ≡ kind → u ≡ retyped s at b z → u ≡ retyped s at kind z
+retyped-as s u at b kind z e f = f ∙ ap (λ t. retyped s at t z) e
 
 -- ---- the place of an entry that was found
 module _ (s : List ℕ) (g : Geometry) (good : GoodGeometry (length s) g) where
@@ -62,14 +62,14 @@ module _ (s : List ℕ) (g : Geometry) (good : GoodGeometry (length s) g) where
 -- ---- what was planned
 unfoldable pub Planned : List ℕ → List ℕ → Doom → Type 0
 Planned s path (Refused n) = (z : ℤ) → deleteOf s path z ≡ refusedWrite s n
-Planned s path (At at t) = (at .0 + 64 ≤ length s) × ((z : ℤ) → deleteOf s path z ≡ wrote (markedAt s (at .0) t z))
+Planned s path (At at t) = (at .0 + 64 ≤ length s) × ((z : ℤ) → deleteOf s path z ≡ wrote (retyped s (at .0) (deletedKind t) z))
 
 module _ (s path : List ℕ) (r : Doom) (told : Planned s path r) where
   pub planned-refused : (n : ℕ) → r ≡ Refused n → (z : ℤ) → deleteOf s path z ≡ refusedWrite s n
   unfolding Planned
   planned-refused n e = rw e at told
 
-  pub planned-at : (at : Offset) (t : ℕ) → r ≡ At at t → (at .0 + 64 ≤ length s) × ((z : ℤ) → deleteOf s path z ≡ wrote (markedAt s (at .0) t z))
+  pub planned-at : (at : Offset) (t : ℕ) → r ≡ At at t → (at .0 + 64 ≤ length s) × ((z : ℤ) → deleteOf s path z ≡ wrote (retyped s (at .0) (deletedKind t) z))
   unfolding Planned
   planned-at at t e = rw e at told
 
@@ -79,7 +79,7 @@ module _ (s path : List ℕ) (g : Held) (opened : Opened s g) (e : Entry) (found
   unfolding slotAt
   entry-within = slot-within s (geometryView g) (opened-super s g opened .good) path e found
 
-  pub entry-planned : g .version ≤ version10 → pathGood path ≡ true → anyBelow path (entries (volumeOf s (geometryView g))) ≡ false
-      → (at : ℕ) → at ≡ length s - g .index + 64 * e .slot → (z : ℤ) → deleteOf s path z ≡ wrote (markedAt s at (e .kind) z)
-  unfolding markedAt deleted slotAt
+  pub entry-planned : writable (geometryView g) ≡ true → pathGood path ≡ true → anyBelow path (entries (volumeOf s (geometryView g))) ≡ false
+      → (at : ℕ) → at ≡ length s - g .index + 64 * e .slot → (z : ℤ) → deleteOf s path z ≡ wrote (retyped s at (deletedKind (e .kind)) z)
+  unfolding deleted slotAt
   entry-planned v p b at i z = delete-done s (volumeOf s (geometryView g)) opened v path z p e found b ∙ rw i

@@ -12,12 +12,12 @@ use Rattle.rules.specs.Lists.{pick, padded}
 use Rattle.rules.specs.Lists.Laws.{length-padded}
 use Rattle.rules.specs.Fields.{splice}
 use Rattle.rules.specs.Fields.Laws.{length-splice, splice-nil}
-use Rattle.rules.specs.SuperBlock.{Geometry, version10, trimData, withData, restamp, putSizes, sizesBytes, superBlockAt}
+use Rattle.rules.specs.SuperBlock.{Geometry, writable, trimData, withData, restamp, putSizes, sizesBytes, superBlockAt}
 use Rattle.rules.specs.SuperBlock.Laws.{GoodGeometry, length-sizes}
 use Rattle.rules.specs.Index.{Entry, typeUnused, deletedType, slotAt, unusedBytes, itemsOf, entriesOf}
 use Rattle.rules.specs.Index.Walk.{walkAll, pick-both}
 use Rattle.rules.specs.Refusals.{accepted, judge}
-use Rattle.rules.specs.Writing.{isDeleted, cleared, leastEnd, reclaimOf}
+use Rattle.rules.specs.Writing.{isDeleted, undeleted, cleared, leastEnd, reclaimOf}
 use Rattle.rules.specs.Writing.Laws.{wrote, reclaim-done}
 use Rattle.index.specs.declared.Cursor.{Cursor}
 use Rattle.index.specs.declared.Head.{Head}
@@ -88,7 +88,7 @@ module _ (s t : List ℕ) (c : Cursor) (long : length t ≡ length s) (same : dr
 -- ---- clearing what is left from d in t comes to clearing all from c in s
 pub record Clears (s : List ℕ) (c : Cursor) (t : List ℕ) (d : Cursor) : Type 0 where
   pub place : (g : Geometry) → c .at .0 ≡ slotAt s g (c .slot .0) → d .at .0 ≡ slotAt t g (d .slot .0)
-  pub rest : (g : Geometry) → c .at .0 ≡ slotAt s g (c .slot .0) → cleared t g (entriesFrom t d) ≡ cleared s g (entriesFrom s c)
+  pub rest : (g : Geometry) → c .at .0 ≡ slotAt s g (c .slot .0) → cleared isDeleted t g (entriesFrom t d) ≡ cleared isDeleted s g (entriesFrom s c)
 
 pub clears-none : (s : List ℕ) (c : Cursor) → Clears s c s c
 clears-none s c = record { place = λ g p. p; rest = λ g p. refl }
@@ -97,7 +97,7 @@ clears-both : (s t u : List ℕ) (b c d : Cursor) → Clears s b t c → Clears 
 clears-both s t u b c d x y = record { place = λ g p. y .place g (x .place g p); rest = λ g p. y .rest g (x .place g p) ∙ x .rest g p }
 
 pub clears-all : (s t : List ℕ) (c d : Cursor) → Clears s c t d → entriesFrom t d ≡ []
-    → (g : Geometry) → c .at .0 ≡ slotAt s g (c .slot .0) → t ≡ cleared s g (entriesFrom s c)
+    → (g : Geometry) → c .at .0 ≡ slotAt s g (c .slot .0) → t ≡ cleared isDeleted s g (entriesFrom s c)
 unfolding cleared
 clears-all s t c d x e g p = rw e at (x .rest g p)
 
@@ -120,14 +120,14 @@ module _ (s : List ℕ) (c : Cursor) (h : Head) (d : Cursor) (step : Step s c h 
   unfolding slotAt
   next-place g p = omega (arith, step .place, step .after, step .number, long)
 
-  front : (g : Geometry) → h .at .0 ≡ slotAt s g (h .slot .0) → (es : List Entry) → cleared s g (headView s h ∷ es) ≡ cleared t g es
+  front : (g : Geometry) → h .at .0 ≡ slotAt s g (h .slot .0) → (es : List Entry) → cleared isDeleted s g (headView s h ∷ es) ≡ cleared isDeleted t g es
   unfolding cleared isDeleted headView headCleared
   front g p es = rw (is, p)
 
   step-clears : Clears s c t d
   step-clears = record {
     place = next-place;
-    rest = λ g p. ap (λ es. cleared t g es) (ap entriesOf (items-kept s t d long same)) ∙ sym (front g (head-place g p) (entriesFrom s d)) ∙ sym (ap (cleared s g) (step .entries));
+    rest = λ g p. ap (λ es. cleared isDeleted t g es) (ap entriesOf (items-kept s t d long same)) ∙ sym (front g (head-place g p) (entriesFrom s d)) ∙ sym (ap (cleared isDeleted s g) (step .entries));
   }
 
   pub clears-more : (r : List ℕ) (b : Cursor) → Clears r b s c → Clears r b t d
@@ -135,12 +135,12 @@ module _ (s : List ℕ) (c : Cursor) (h : Head) (d : Cursor) (step : Step s c h 
 
 -- ---- the image that a reclaim leaves, of a volume with the geometry g
 abbrev pub leastSizes : List ℕ → Geometry → ℤ → Geometry
-leastSizes s g z = restamp g (trimData g (leastEnd (entriesOf (itemsOf s g)))) z
+leastSizes s g z = restamp g (trimData g (leastEnd (undeleted (entriesOf (itemsOf s g))))) z
 
 unfoldable pub reclaimed : List ℕ → Geometry → ℤ → List ℕ
-reclaimed s g z = cleared (putSizes s (leastSizes s g z)) (leastSizes s g z) (entriesOf (itemsOf s g))
+reclaimed s g z = cleared isDeleted (putSizes s (leastSizes s g z)) (leastSizes s g z) (entriesOf (itemsOf s g))
 
-pub reclaim-written : (s : List ℕ) (g : Geometry) → judge s ≡ accepted (volumeOf s g) → g .version ≤ version10 → (z : ℤ) → reclaimOf s z ≡ wrote (reclaimed s g z)
+pub reclaim-written : (s : List ℕ) (g : Geometry) → judge s ≡ accepted (volumeOf s g) → writable g ≡ true → (z : ℤ) → reclaimOf s z ≡ wrote (reclaimed s g z)
 unfolding reclaimed
 reclaim-written s g o c z = reclaim-done s (volumeOf s g) o c z
 
@@ -163,17 +163,17 @@ module _ (s : List ℕ) (g : Geometry) (good : GoodGeometry (length s) g) (k : G
 -- trimming and stamping keep the index area's size
 least-index : (s : List ℕ) (g : Geometry) (z : ℤ) → leastSizes s g z .indexBytes ≡ g .indexBytes
 unfolding trimData withData
-least-index s g z = restamp-index g (trimData g (leastEnd (entriesOf (itemsOf s g)))) z
+least-index s g z = restamp-index g (trimData g (leastEnd (undeleted (entriesOf (itemsOf s g))))) z
 
 -- ---- as a program writes it: the sizes k, then the runs from the cursor at the first inner slot on
 module _ (s : List ℕ) (g : Geometry) (z : ℤ) (c : Cursor) (items : itemsFrom s c ≡ itemsOf s g) (at : c .at .0 ≡ slotAt s g (c .slot .0)) where
-  pub sizes-are : (e : ℕ) (t k : Geometry) → e ≡ leastEnd (entriesFrom s c) → t ≡ trimData g e → k ≡ restamp g t z → k ≡ leastSizes s g z
-  sizes-are e t k x y w = w ∙ ap (λ h. restamp g h z) (y ∙ ap (trimData g) (x ∙ ap (λ is. leastEnd (entriesOf is)) items))
+  pub sizes-are : (e : ℕ) (t k : Geometry) → e ≡ leastEnd (undeleted (entriesFrom s c)) → t ≡ trimData g e → k ≡ restamp g t z → k ≡ leastSizes s g z
+  sizes-are e t k x y w = w ∙ ap (λ h. restamp g h z) (y ∙ ap (trimData g) (x ∙ ap (λ is. leastEnd (undeleted (entriesOf is))) items))
 
   pub reclaimed-put : GoodGeometry (length s) g → (k : Geometry) → k ≡ leastSizes s g z → (t u : List ℕ) → t ≡ putSizes s k
-      → ((h : Geometry) → c .at .0 ≡ slotAt t h (c .slot .0) → u ≡ cleared t h (entriesFrom t c)) → u ≡ reclaimed s g z
+      → ((h : Geometry) → c .at .0 ≡ slotAt t h (c .slot .0) → u ≡ cleared isDeleted t h (entriesFrom t c)) → u ≡ reclaimed s g z
   unfolding reclaimed
   reclaimed-put good k is t u e clears =
       let f : t ≡ putSizes s (leastSizes s g z) = e ∙ ap (putSizes s) is in
       let p : c .at .0 ≡ slotAt t (leastSizes s g z) (c .slot .0) = rw f (sizes-place s g good (leastSizes s g z) c at (least-index s g z)) in
-      clears (leastSizes s g z) p ∙ rw f (ap (cleared (putSizes s (leastSizes s g z)) (leastSizes s g z)) (sizes-entries s g good (leastSizes s g z) c at items))
+      clears (leastSizes s g z) p ∙ rw f (ap (cleared isDeleted (putSizes s (leastSizes s g z)) (leastSizes s g z)) (sizes-entries s g good (leastSizes s g z) c at items))

@@ -13,17 +13,14 @@ ghost use Prim.Native.Nat.{_+_, _*_, _≤_};
 ghost use lib.ListN.{length};
 ghost use Rattle.rules.specs.Fields.{splice, signedOf};
 ghost use Rattle.rules.specs.SuperBlock.{Geometry as Sizes};
-ghost use Rattle.rules.specs.Index.{deletedType, slotAt, unusedBytes};
-ghost use Rattle.rules.specs.Writing.{deletedKind, deleteOf, cleared, reclaimOf};
+ghost use Rattle.rules.specs.Index.{deletedType, slotAt, unusedBytes, retyped};
+ghost use Rattle.rules.specs.Writing.{deletedKind, deleteOf, isDeleted, cleared, reclaimOf};
 ghost use Rattle.rules.specs.Writing.Laws.{writtenAs};
 ghost use Rattle.geometry.specs.View.{geometryView};
 ghost use Rattle.index.specs.Steps.{Walks, HeadIn, entriesFrom};
 ghost use Rattle.judging.specs.View.{Opened};
-ghost use Rattle.erasing.specs.Delete.{markedAt, Planned};
+ghost use Rattle.erasing.specs.Delete.{Planned};
 ghost use Rattle.erasing.specs.Reclaim.{headCleared, reclaimed};
-
-// The last version that may be written.
-const VERSION: u8 = 0x10;
 
 // The place of an entry's stamp in its first slot.
 const STAMP: usize = 2;
@@ -42,7 +39,7 @@ fn plan_entry(img: &[u8], g: Geometry, path: &[u8]) -> Doom
     requires { ⌜ Opened (now img) g ⌝ }
     ensures { λ r. ⌜ Planned (now (img .entry)) (now (path .entry)) r ⌝ }
 {
-    if VERSION < g.version {
+    if !g.is_writable() {
         return Doom::Refused(9);
     }
     if !names::path_good(path) {
@@ -70,12 +67,12 @@ fn plan_delete(img: &[u8], path: &[u8]) -> Doom
     }
 }
 
-// The type and the stamp of an entry that is deleted.
-fn mark(img: &mut [u8], at: usize, kind: u8, stamp: u64)
+// Another type and stamp at the entry whose first slot is at `at`.
+fn retype(img: &mut [u8], at: usize, kind: u8, stamp: u64)
     requires { ⌜ at + 64 ≤ length (now img) ⌝ }
-    ensures { λ _. ⌜ now (img .exit) ≡ markedAt (now (img .entry)) at kind (signedOf stamp) ⌝ }
+    ensures { λ _. ⌜ now (img .exit) ≡ retyped (now (img .entry)) at kind (signedOf stamp) ⌝ }
 {
-    fields::put_le(img, at, 1, fields::wide(slots::deleted_kind(kind)));
+    fields::put_le(img, at, 1, fields::wide(kind));
     fields::put_le(img, at + STAMP, 8, stamp);
 }
 
@@ -86,7 +83,7 @@ pub fn delete(img: &mut [u8], path: &[u8], stamp: u64) -> u32
     match plan_delete(img, path) {
         Doom::Refused(n) => n as u32,
         Doom::At(at, kind) => {
-            mark(img, at.0, kind, stamp);
+            retype(img, at.0, slots::deleted_kind(kind), stamp);
             0
         }
     }
@@ -121,7 +118,7 @@ fn clear_head(img: &mut [u8], h: Head)
 // Every deleted run from the cursor on is cleared. What is cleared lies before the cursor that the walk goes on from.
 fn clear_deleted(img: &mut [u8], from: Cursor)
     requires { ⌜ Walks (now img) from ⌝ }
-    ensures { λ _. ⌜ ((g : Sizes) → from .at .0 ≡ slotAt (now (img .entry)) g (from .slot .0) → now (img .exit) ≡ cleared (now (img .entry)) g (entriesFrom (now (img .entry)) from)) ⌝ }
+    ensures { λ _. ⌜ ((g : Sizes) → from .at .0 ≡ slotAt (now (img .entry)) g (from .slot .0) → now (img .exit) ≡ cleared isDeleted (now (img .entry)) g (entriesFrom (now (img .entry)) from)) ⌝ }
 {
     let mut c = from;
     loop {
@@ -154,7 +151,7 @@ pub fn reclaim(img: &mut [u8], stamp: u64) -> u32
     match judging::judge(img) {
         Judged::Refused(n) => n as u32,
         Judged::Good(g) => {
-            if VERSION < g.version {
+            if !g.is_writable() {
                 return 9;
             }
             write_reclaimed(img, g, stamp);

@@ -13,7 +13,7 @@ use Rattle.rules.specs.SuperBlock.{Geometry, dataEnd}
 use Rattle.rules.specs.Index.{Entry, Item, unused, entry, fault, fileType, itemAt, entriesOf, walk, followed, slotBytes}
 use Rattle.rules.specs.Index.Walk.{walkAll}
 use Rattle.rules.specs.Regions.{blocksOf, heldBlocks, withinData, fileRegionGood, regionGood, regionsSound}
-use Rattle.rules.specs.Writing.{isDeleted, leastEnd}
+use Rattle.rules.specs.Writing.{isDeleted, undeleted, leastEnd}
 use Rattle.geometry.specs.declared.Geometry.{Geometry as Held}
 use Rattle.geometry.specs.View.{geometryView}
 use Rattle.index.specs.declared.Cursor.{Cursor}
@@ -42,7 +42,7 @@ held-next es x xs h = rw h (sum-keep blocksOf (fileType (x .kind)) x (only (λ e
 unfoldable pub keptEnd : Entry → ℕ
 keptEnd e = pick (isDeleted e) 0 (e .end)
 
-pub least-end : (es : List Entry) → es ≡ [] → leastEnd es ≡ 0
+pub least-end : (es : List Entry) → es ≡ [] → leastEnd (undeleted es) ≡ 0
 unfolding leastEnd only largest
 least-end es h = rw h
 
@@ -51,9 +51,9 @@ unfolding largest keepIf pick
 largest-keep f true x xs = omega arith
 largest-keep f false x xs = refl
 
-pub least-next : (es : List Entry) (x : Entry) (xs : List Entry) → es ≡ x ∷ xs → leastEnd es ≡ max (keptEnd x) (leastEnd xs)
+pub least-next : (es : List Entry) (x : Entry) (xs : List Entry) → es ≡ x ∷ xs → leastEnd (undeleted es) ≡ max (keptEnd x) (leastEnd (undeleted xs))
 unfolding leastEnd keptEnd only
-least-next es x xs h = rw h (largest-keep (λ e. e .end) (isDeleted x) x (only (λ e. not (isDeleted e)) xs))
+least-next es x xs h = rw h (largest-keep (λ e. e .end) (isDeleted x) x (undeleted xs))
 
 -- ---- the blocks held fit 64 bits
 few-followed : (n : ℕ) (i : Item) (rest : ℕ → List Item) → ((m : ℕ) → length (entriesOf (rest m)) ≤ n) → length (entriesOf (followed i rest)) ≤ suc n

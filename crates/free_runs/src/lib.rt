@@ -8,7 +8,7 @@ ghost use mathlib.Core.Path.{_≡_};
 ghost use mathlib.Core.List.{List};
 ghost use Prim.Native.Nat.{ℕ, _+_, _^_, _≤_, _<_, max};
 ghost use Rattle.rules.specs.Regions.{holds, busy, heldBlocks, lowestFree, blocksNeeded};
-ghost use Rattle.rules.specs.Writing.{leastEnd};
+ghost use Rattle.rules.specs.Writing.{undeleted, leastEnd};
 ghost use Rattle.index.specs.View.{headView};
 ghost use Rattle.index.specs.Steps.{Walks, entriesFrom};
 ghost use Rattle.free_runs.specs.View.{freeView};
@@ -163,7 +163,7 @@ fn kept_end(h: Head) -> u64
 // The least end that the data area can have once deleted entries are gone.
 pub fn last_end(img: &[u8], from: Cursor) -> u64
     requires { ⌜ Walks (now img) from ⌝ }
-    ensures { λ r. ⌜ r ≡ leastEnd (entriesFrom (now (img .entry)) from) ⌝ }
+    ensures { λ r. ⌜ r ≡ leastEnd (undeleted (entriesFrom (now (img .entry)) from)) ⌝ }
 {
     let mut c = from;
     let mut last = 0;

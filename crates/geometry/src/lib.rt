@@ -5,9 +5,12 @@ ghost use mathlib.Core.Path.{_≡_};
 ghost use Prim.Native.Nat.{_+_, _*_, _≤_, _<_, _^_};
 ghost use mathlib.Core.Bool.{true};
 ghost use lib.Dec.{eqb};
-ghost use Rattle.rules.specs.SuperBlock.{blockLength, dataEnd, ceilingBlock, indexGood, geometryGood, growIndex, extendData, trimData, withStamp, restamp};
+ghost use Rattle.rules.specs.SuperBlock.{blockLength, dataEnd, ceilingBlock, writable, indexGood, geometryGood, growIndex, extendData, trimData, withStamp, restamp};
 ghost use Rattle.rules.specs.Fields.{signedOf};
 ghost use Rattle.geometry.specs.View.{geometryView, areasFit};
+
+// The latest version that is written; a later one is only read.
+const WRITABLE: u8 = 0x10;
 
 // The least bytes of the reserved area: the boot code and the super-block.
 const LEAST_RESERVED: u64 = 512;
@@ -119,6 +122,13 @@ impl Geometry {
         ensures { λ r. ⌜ r .0 ≡ ceilingBlock n (geometryView self) ⌝ }
     {
         units::index_start(n, self.index).block(self.block_length())
+    }
+
+    // Whether a volume of this geometry may be written.
+    pub fn is_writable(self) -> bool
+        ensures { λ r. ⌜ r ≡ writable (geometryView self) ⌝ }
+    {
+        self.version <= WRITABLE
     }
 
     // Whether the geometry is good for an image of n bytes, at any 64-bit values.

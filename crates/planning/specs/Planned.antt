@@ -10,7 +10,7 @@ use lib.ListN.{length}
 use lib.IntN.{ℤ}
 use Rattle.rules.specs.Lists.{isSome}
 use Rattle.rules.specs.Lists.Laws.{clash}
-use Rattle.rules.specs.SuperBlock.{Geometry, blockLength, ceilingBlock, version10}
+use Rattle.rules.specs.SuperBlock.{Geometry, blockLength, ceilingBlock, writable}
 use Rattle.rules.specs.SuperBlock.Laws.{areas-fit, reserved-pos, ceiling-fits}
 use Rattle.rules.specs.Names.{newPathGood, leading}
 use Rattle.rules.specs.Names.Laws.{new-path}
@@ -88,7 +88,7 @@ module _ (s : List ℕ) (g : Geometry) (c : Cursor) (items : itemsFrom s c ≡ i
 
 -- the tests 9 to 13 passed
 pub record Clear (s : List ℕ) (g : Held) (path : List ℕ) : Type 0 where
-  pub current : g .version ≤ version10
+  pub current : writable (geometryView g) ≡ true
   pub named : newPathGood path ≡ true
   pub absent : lookup path (entries (volumeOf s (geometryView g))) ≡ none
   pub nearest : nearestLive (entries (volumeOf s (geometryView g))) (leading path) ≡ true
@@ -107,17 +107,17 @@ module _ (s : List ℕ) (g : Held) (opened : Opened s g) where
     index = o .geometry-good .index-high;
   }
 
-  pub clear : (path : List ℕ) → g .version ≤ version10 → newPathGood path ≡ true → isSome (lookup path (entries v)) ≡ false
+  pub clear : (path : List ℕ) → writable (geometryView g) ≡ true → newPathGood path ≡ true → isSome (lookup path (entries v)) ≡ false
       → nearestLive (entries v) (leading path) ≡ true → Clear s g path
   clear path current named absent d =
       record { current = current; named = named; absent = found-none (lookup path (entries v)) absent; nearest = d }
 
   module _ (new : New) (path : List ℕ) (stamp : ℤ) where
-    pub planned-later : version10 < g .version → Planned s new path stamp (Refused 9)
+    pub planned-later : writable (geometryView g) ≡ false → Planned s new path stamp (Refused 9)
     unfolding Planned
     planned-later l = create-later s v opened l new path stamp
 
-    module _ (current : g .version ≤ version10) where
+    module _ (current : writable (geometryView g) ≡ true) where
       pub planned-name : newPathGood path ≡ false → Planned s new path stamp (Refused 10)
       unfolding Planned
       planned-name p = create-name s v opened current new path stamp p

@@ -183,7 +183,7 @@ fn plan_opened(img: &[u8], g: Geometry, file: bool, path: &[u8], bytes: &[u8], s
     requires { ⌜ Opened (now img) g ⌝ }
     ensures { λ r. ⌜ Planned (now (img .entry)) (newOf file (now (bytes .entry))) (now (path .entry)) (signedOf stamp) r ⌝ }
 {
-    if 0x10 < g.version {
+    if !g.is_writable() {
         return Plan::Refused(9);
     }
     if !names::new_path_good(path) {

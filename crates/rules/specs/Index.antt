@@ -6,7 +6,7 @@ use lib.ListN.{length, take, drop, replicate}
 use lib.Dec.{eqb, ltb, leb}
 use lib.IntN.{ℤ, pos}
 use Rattle.rules.specs.Lists.{pick, all, padded, part}
-use Rattle.rules.specs.Fields.{byteAt, le, leBytes, stampIn, stampBytes, upToZero, hasZero}
+use Rattle.rules.specs.Fields.{byteAt, le, leBytes, splice, stampIn, stampBytes, upToZero, hasZero}
 use Rattle.rules.specs.SuperBlock.{Geometry}
 use Rattle.rules.specs.Names.{pathGood, volumeTextGood}
 pub mod Walk
@@ -238,3 +238,7 @@ runBytes e =
     ++ (pick (fileType (e .kind)) (leBytes 8 (e .start) ++ (leBytes 8 (e .end) ++ leBytes 8 (e .length))) []
     ++ e .path))
     (slotBytes * e .slots)
+
+-- an image with this type and stamp at the entry whose first slot is at the place: nine bytes
+unfoldable pub retyped : List ℕ → ℕ → ℕ → ℤ → List ℕ
+retyped s at kind stamp = splice (splice s at (kind ∷ [])) (at + stampAt) (stampBytes stamp)

@@ -60,6 +60,10 @@ pub record Geometry : Type 0 where
   pub reserved : ℕ  -- blocks, the super-block's own among them
   pub blockField : ℕ  -- 01's b
 
+-- a volume of a version up to 0x10 may be written, a later one only read
+unfoldable pub writable : Geometry → Bool
+writable g = leb (g .version) version10
+
 unfoldable pub geometryOf : List ℕ → Geometry
 geometryOf s = record {
   stamp = stampIn s superBlockAt;

@@ -7,10 +7,10 @@ use lib.ListN.{length, drop, take}
 use lib.Dec.{eqb, leb}
 use lib.IntN.{ℤ}
 use Rattle.rules.specs.Lists.{pick, only, firstIf, padded, largest}
-use Rattle.rules.specs.Fields.{splice, stampBytes}
-use Rattle.rules.specs.SuperBlock.{Geometry, blockBytes, blockLength, ceilingBlock, dataEnd, fieldOf, geometryGood, lengthGood, growIndex, extendData, trimData, restamp, superBlockBytes, superBlockAt, putSizes, version10}
+use Rattle.rules.specs.Fields.{splice}
+use Rattle.rules.specs.SuperBlock.{Geometry, blockBytes, blockLength, ceilingBlock, dataEnd, fieldOf, geometryGood, lengthGood, growIndex, extendData, trimData, restamp, superBlockBytes, superBlockAt, putSizes, version10, writable}
 use Rattle.rules.specs.Names.{pathGood, newPathGood, volumeNameGood, leading}
-use Rattle.rules.specs.Index.{Entry, Item, unused, entry, fault, fileType, deletedType, typeFile, typeDirectory, typeDeletedFile, typeDeletedDirectory, slotBytes, stampAt, slotAt, markerBytes, identifierBytes, unusedBytes, continuing, runBytes}
+use Rattle.rules.specs.Index.{Entry, Item, unused, entry, fault, fileType, deletedType, typeFile, typeDirectory, typeDeletedFile, typeDeletedDirectory, slotBytes, slotAt, markerBytes, identifierBytes, unusedBytes, continuing, runBytes, retyped}
 use Rattle.rules.specs.Regions.{lowestFree, blocksNeeded}
 use Rattle.rules.specs.Paths.{lookup, directoryLive, anyBelow}
 use Rattle.rules.specs.Lists.{isSome}
@@ -22,7 +22,7 @@ abbrev pub Written : Type 0
 Written = Outcome (Unit {0})
 
 abbrev pub onWritable : List ℕ → (Volume → Verdict Written) → Written
-onWritable s call = onVolume tt s [] (λ v. need (leb (v .geometry .version) version10) 9 (call v))
+onWritable s call = onVolume tt s [] (λ v. need (writable (v .geometry)) 9 (call v))
 
 -- ---- format
 -- the geometry that results; b follows from the bytes per block
@@ -150,12 +150,12 @@ createOf s new path stamp =
     let g : Geometry = restamp (v .geometry) (extendData (p .geometry) (e .end)) stamp in
     accepted (done tt (created s (v .geometry) g e (bytesOf new)) [])))))))
 
--- ---- delete: type and stamp, nine bytes
+-- ---- delete: the type and the stamp of its entry
 unfoldable pub deletedKind : ℕ → ℕ
 deletedKind t = pick (fileType t) typeDeletedFile typeDeletedDirectory
 
 unfoldable pub deleted : List ℕ → ℕ → Entry → ℤ → List ℕ
-deleted s at e stamp = splice (splice s at (deletedKind (e .kind) ∷ [])) (at + stampAt) (stampBytes stamp)
+deleted s at e stamp = retyped s at (deletedKind (e .kind)) stamp
 
 unfoldable pub deleteOf : List ℕ → List ℕ → ℤ → Written
 deleteOf s path stamp =
@@ -169,16 +169,21 @@ deleteOf s path stamp =
 unfoldable pub isDeleted : Entry → Bool
 isDeleted e = deletedType (e .kind)
 
-unfoldable pub cleared : List ℕ → Geometry → List Entry → List ℕ
-cleared s g [] = s
-cleared s g (e ∷ es) = cleared (pick (isDeleted e) (splice s (slotAt s g (e .slot)) (unusedBytes (e .slots))) s) g es
+-- the entries that are left
+abbrev pub undeleted : List Entry → List Entry
+undeleted es = only (λ e. not (isDeleted e)) es
 
--- the least size covers the regions that are left
+-- the runs of the entries that pass become unused slots
+unfoldable pub cleared : (Entry → Bool) → List ℕ → Geometry → List Entry → List ℕ
+cleared p s g [] = s
+cleared p s g (e ∷ es) = cleared p (pick (p e) (splice s (slotAt s g (e .slot)) (unusedBytes (e .slots))) s) g es
+
+-- the least end of a data area that covers the regions of these entries
 unfoldable pub leastEnd : List Entry → ℕ
-leastEnd es = largest (λ e. e .end) (only (λ e. not (isDeleted e)) es)
+leastEnd es = largest (λ e. e .end) es
 
 unfoldable pub reclaimOf : List ℕ → ℤ → Written
 reclaimOf s stamp =
     onWritable s (λ v.
-    let g : Geometry = restamp (v .geometry) (trimData (v .geometry) (leastEnd (entries v))) stamp in
-    accepted (done tt (cleared (putSizes s g) g (entries v)) []))
+    let g : Geometry = restamp (v .geometry) (trimData (v .geometry) (leastEnd (undeleted (entries v)))) stamp in
+    accepted (done tt (cleared isDeleted (putSizes s g) g (entries v)) []))

@@ -70,22 +70,22 @@ pub record Cleared (s t : List ℕ) (g : Geometry) (is : List Item) : Type 0 whe
 -- what clears the rest, for any image in which it stands behind `pre`
 abbrev Rest : Geometry → List Item → Type 0
 Rest g rest = (s : List ℕ) (pre : List Item) → GoodGeometry (length s) g → itemsOf s g ≡ pre ++ rest → noFault (pre ++ rest)
-    → Cleared s (cleared s g (entriesOf rest)) g (pre ++ clearedItems rest)
+    → Cleared s (cleared isDeleted s g (entriesOf rest)) g (pre ++ clearedItems rest)
 
 -- one item was taken care of: `mid` stands for it
 turn : (g : Geometry) (rest : List Item) → Rest g rest → (s t : List ℕ) (pre mid : List Item) → GoodGeometry (length s) g → Inner s t g
-    → itemsOf t g ≡ pre ++ (mid ++ rest) → noFault (pre ++ (mid ++ rest)) → Cleared s (cleared t g (entriesOf rest)) g (pre ++ (mid ++ clearedItems rest))
+    → itemsOf t g ≡ pre ++ (mid ++ rest) → noFault (pre ++ (mid ++ rest)) → Cleared s (cleared isDeleted t g (entriesOf rest)) g (pre ++ (mid ++ clearedItems rest))
 turn g rest rec s t pre mid good i here sound =
     let join : pre ++ mid ++ rest ≡ pre ++ (mid ++ rest) = append-assoc pre mid rest in
     let c = rec t (pre ++ mid) (rw (i .long) good) (here ∙ sym join) (rw join sound) in
     record {
-      inner = inner-then s t (cleared t g (entriesOf rest)) g i (c .inner);
+      inner = inner-then s t (cleared isDeleted t g (entriesOf rest)) g i (c .inner);
       items = c .items ∙ append-assoc pre mid (clearedItems rest);
     }
 
 turn-entry : (g : Geometry) (rest : List Item) → Rest g rest → (e : Entry) (s : List ℕ) (pre : List Item) → GoodGeometry (length s) g
     → itemsOf s g ≡ pre ++ (entry e ∷ rest) → noFault (pre ++ (entry e ∷ rest)) → (b : Bool)
-    → Cleared s (cleared (pick b (splice s (slotAt s g (e .slot)) (unusedBytes (e .slots))) s) g (entriesOf rest)) g
+    → Cleared s (cleared isDeleted (pick b (splice s (slotAt s g (e .slot)) (unusedBytes (e .slots))) s) g (entriesOf rest)) g
     (pre ++ (pick b (unusedFrom (e .slot) (e .slots)) (entry e ∷ []) ++ clearedItems rest))
 unfolding pick
 turn-entry g rest rec e s pre good here sound true =
@@ -103,5 +103,5 @@ clear-rest g (fault k ∷ rest) s pre good here sound = turn g rest (clear-rest 
 clear-rest g (entry e ∷ rest) s pre good here sound = turn-entry g rest (clear-rest g rest) e s pre good here sound (isDeleted e)
 
 -- all of an index
-pub clear-all : (s : List ℕ) (g : Geometry) (is : List Item) → GoodGeometry (length s) g → itemsOf s g ≡ is → noFault is → Cleared s (cleared s g (entriesOf is)) g (clearedItems is)
+pub clear-all : (s : List ℕ) (g : Geometry) (is : List Item) → GoodGeometry (length s) g → itemsOf s g ≡ is → noFault is → Cleared s (cleared isDeleted s g (entriesOf is)) g (clearedItems is)
 clear-all s g is good here sound = clear-rest g is s [] good here sound

@@ -13,7 +13,7 @@ use Rattle.rules.specs.Index.{Entry, itemsOf}
 use Rattle.rules.specs.Regions.{regionsSound}
 use Rattle.rules.specs.Refusals.{accepted, Volume, entries, judge}
 use Rattle.rules.specs.Refusals.Laws.{GoodSuper, Opens, judge-opens, opens-judge, opens-super, sizes-super}
-use Rattle.rules.specs.Writing.{reclaimOf, cleared, leastEnd, isDeleted}
+use Rattle.rules.specs.Writing.{reclaimOf, cleared, undeleted, leastEnd, isDeleted}
 use Rattle.after.specs.After.{Left, sight, AfterReclaim}
 use Rattle.laws.proofs.Lists.Perms.{perm-of}
 use Rattle.laws.proofs.Index.Items.{noFault}
@@ -30,11 +30,11 @@ use Rattle.after.proofs.Reclaim.Keeping.{all-kept}
 
 -- ---- the geometry that is written, and the one that is then read
 trimmed : Volume → ℤ → Geometry
-trimmed v stamp = restamp (v .geometry) (trimData (v .geometry) (leastEnd (entries v))) stamp
+trimmed v stamp = restamp (v .geometry) (trimData (v .geometry) (leastEnd (undeleted (entries v)))) stamp
 
 -- the image is what was told
 reclaim-image : (s : List ℕ) (v : Volume) (stamp : ℤ) → judge s ≡ accepted v → reclaimOf s stamp .refusal ≡ 0
-    → reclaimOf s stamp .image ≡ cleared (putSizes s (trimmed v stamp)) (trimmed v stamp) (entries v)
+    → reclaimOf s stamp .image ≡ cleared isDeleted (putSizes s (trimmed v stamp)) (trimmed v stamp) (entries v)
 unfolding reclaimOf trimmed
 reclaim-image s v stamp o z = passed-done s _ (reclaimOf s stamp) (passed-writable s v _ o z)
 
@@ -47,18 +47,18 @@ module _ (s : List ℕ) (v : Volume) (stamp : ℤ) (o : Opens s v) where
 
   same : SameBlocks h g
   unfolding trimmed
-  same = same-restamp (trimData g (leastEnd (entries v))) g (same-trim g g (same-self g) (leastEnd (entries v))) g stamp
+  same = same-restamp (trimData g (leastEnd (undeleted (entries v)))) g (same-trim g g (same-self g) (leastEnd (undeleted (entries v)))) g stamp
 
   index : h .indexBytes ≡ g .indexBytes
   unfolding trimmed trimData withData
-  index = restamp-index g (trimData g (leastEnd (entries v))) stamp
+  index = restamp-index g (trimData g (leastEnd (undeleted (entries v)))) stamp
 
   settled : All Settled (entries v)
   settled = rw (o .items-are) (settled-items s g)
 
   shrinks : dataEnd h ≤ dataEnd g
   unfolding trimmed
-  shrinks = omega (arith, restamp-end g (trimData g (leastEnd (entries v))) stamp, trim-fits g (entries v) settled (o .regions-sound))
+  shrinks = omega (arith, restamp-end g (trimData g (leastEnd (undeleted (entries v)))) stamp, trim-fits g (entries v) settled (o .regions-sound))
 
   good : GoodGeometry (length s) h
   good = good-shrunk g h same (length s) index shrinks (o .geometry-good)
@@ -85,7 +85,7 @@ module _ (s : List ℕ) (v : Volume) (stamp : ℤ) (o : Opens s v) where
 
   -- ---- the deleted runs cleared
   image : List ℕ
-  image = cleared begun h (entries v)
+  image = cleared isDeleted begun h (entries v)
 
   sound : noFault (v .items)
   sound = ends-good s g (v .items) (o .index-sound) .1
@@ -97,12 +97,12 @@ module _ (s : List ℕ) (v : Volume) (stamp : ℤ) (o : Opens s v) where
   volume : Volume
   volume = record { geometry = asStored h; items = clearedItems (v .items) }
 
-  regions : regionsSound (asStored h) (only (λ e. not (isDeleted e)) (entries v)) ≡ true
+  regions : regionsSound (asStored h) (undeleted (entries v)) ≡ true
   unfolding trimmed asStored withStamp
   regions =
-      let es : List Entry = only (λ e. not (isDeleted e)) (entries v) in
+      let es : List Entry = undeleted (entries v) in
       sound-geometry (asStored h) h es refl refl refl
-      ∙ sound-restamp g (trimData g (leastEnd (entries v))) stamp es
+      ∙ sound-restamp g (trimData g (leastEnd (undeleted (entries v)))) stamp es
       ∙ sound-reclaim g (entries v) (o .regions-sound)
 
   opens : Opens image volume

@@ -1,7 +1,7 @@
 use mathlib.Core.Path.{sym, ap, _∙_}
 use Rattle.rules.specs.Outcome.{done}
 use Rattle.rules.specs.Writing.Laws.{writtenAs}
-use Rattle.erasing.specs.Delete.{planned-refused, planned-at}
+use Rattle.erasing.specs.Delete.{retyped-as, planned-refused, planned-at}
 use borrow.Author.Needs.{needs}
 use Rattle.erasing.proofs.delete.Statement.{statement}
 use Rattle.erasing.proofs.delete.Tie as tie
@@ -18,8 +18,11 @@ cast-result c = search needs
 enum-known-at : tie.Need-enum-known-at
 enum-known-at c = search needs
 
-mark-requires : tie.Need-mark-requires
-mark-requires c κs = planned-at _ _ _ (c .before .before .before .before .plan-delete .ensures) _ _ (c .before .before .at .given .1) .0
+deleted-kind-requires : tie.Need-deleted-kind-requires
+deleted-kind-requires c κs = search needs
+
+retype-requires : tie.Need-retype-requires
+retype-requires c κs = planned-at _ _ _ (c .before .before .before .before .before .plan-delete .ensures) _ _ (c .before .before .before .at .given .1) .0
 
 same-length : tie.Need-same-length
 same-length c = search needs
@@ -32,7 +35,7 @@ same-length-2 c = search needs
 
 returns-2 : tie.Need-returns-2
 unfolding done
-returns-2 c = ap (writtenAs 0) (c .before .before .mark .ensures) ∙ sym (planned-at _ _ _ (c .before .before .before .before .before .before .before .plan-delete .ensures) _ _ (c .before .before .before .before .before .at .given .1) .1 _)
+returns-2 c = ap (writtenAs 0) (retyped-as _ _ _ _ _ _ (c .before .before .before .deleted-kind .ensures) (c .before .before .retype .ensures)) ∙ sym (planned-at _ _ _ (c .before .before .before .before .before .before .before .before .plan-delete .ensures) _ _ (c .before .before .before .before .before .before .at .given .1) .1 _)
 
 pub delete-spec : {M : Type 1} → statement M
 delete-spec =
@@ -42,7 +45,8 @@ delete-spec =
     enum-known-n
     cast-result
     enum-known-at
-    mark-requires
+    deleted-kind-requires
+    retype-requires
     same-length
     returns
     same-length-2

@@ -1,4 +1,5 @@
 use mathlib.Core.Path.{sym, ap, _∙_}
+use borrow.Author.Tests.{not-true, not-false}
 use Rattle.rules.specs.Outcome.{done}
 use Rattle.rules.specs.Writing.Laws.{writtenAs, reclaim-refused, reclaim-later}
 use Rattle.judging.specs.View.{refused-says, good-says}
@@ -22,8 +23,11 @@ enum-known-g c = search needs
 same-length : tie.Need-same-length
 same-length c = search needs
 
+is-writable-requires : tie.Need-is-writable-requires
+is-writable-requires c κs = search needs
+
 returns : tie.Need-returns
-returns c = sym (reclaim-later _ _ (good-says _ _ (c .before .before .before .before .before .judge .ensures) _ (c .before .before .before .g .given .1)) (c .if1 .taken) _)
+returns c = sym (reclaim-later _ _ (good-says _ _ (c .before .before .before .before .before .judge .ensures) _ (c .before .before .before .g .given .1)) (sym (c .before .is-writable .ensures) ∙ not-true _ (c .if1 .taken)) _)
 
 write-reclaimed-requires : tie.Need-write-reclaimed-requires
 write-reclaimed-requires c κs = good-says _ _ (c .before .before .before .before .before .before .judge .ensures) _ (c .before .before .before .before .g .given .1)
@@ -39,7 +43,7 @@ same-length-3 c = search needs
 
 returns-3 : tie.Need-returns-3
 unfolding done
-returns-3 c = ap (writtenAs 0) (c .before .before .write-reclaimed .ensures) ∙ sym (reclaim-written _ _ (good-says _ _ (c .before .before .before .before .before .before .before .before .before .judge .ensures) _ (c .before .before .before .before .before .before .before .g .given .1)) (c .before .before .before .before .if1 .left) _)
+returns-3 c = ap (writtenAs 0) (c .before .before .write-reclaimed .ensures) ∙ sym (reclaim-written _ _ (good-says _ _ (c .before .before .before .before .before .before .before .before .before .judge .ensures) _ (c .before .before .before .before .before .before .before .g .given .1)) (sym (c .before .before .before .before .before .is-writable .ensures) ∙ not-false _ (c .before .before .before .before .if1 .left)) _)
 
 pub reclaim-spec : {M : Type 1} → statement M
 reclaim-spec =
@@ -49,6 +53,7 @@ reclaim-spec =
     enum-known-n
     cast-result
     enum-known-g
+    is-writable-requires
     same-length
     returns
     write-reclaimed-requires

@@ -2,7 +2,7 @@ use Prim.Native.Nat.{max}
 use mathlib.Core.Path.{_≡_}
 use native.Mathlib.Omega.{arith}
 use denote.Ref.{now}
-use Rattle.rules.specs.Writing.{leastEnd}
+use Rattle.rules.specs.Writing.{undeleted, leastEnd}
 use Rattle.index.specs.Steps.{Walks, Step, entriesFrom}
 use Rattle.regions.specs.Turns.{ended, stepped}
 use Rattle.free_runs.specs.Sums.{least-end, least-next}
@@ -11,7 +11,7 @@ use Rattle.free_runs.proofs.last_end.Statement.{statement}
 use Rattle.free_runs.proofs.last_end.Tie as tie
 
 abbrev Inv-loop : tie.InvT-loop
-Inv-loop img c₀ last₀ c last = Walks img c × (max last (leastEnd (entriesFrom img c)) ≡ leastEnd (entriesFrom img c₀))
+Inv-loop img c₀ last₀ c last = Walks img c × (max last (leastEnd (undeleted (entriesFrom img c))) ≡ leastEnd (undeleted (entriesFrom img c₀)))
 
 abbrev μ-loop : tie.MeasureT-loop
 μ-loop img c₀ last₀ c last = c .left

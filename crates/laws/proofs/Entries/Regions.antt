@@ -17,7 +17,7 @@ use Rattle.rules.specs.Regions.{holds, blocksOf, withinData, fileRegionGood, re
 use Rattle.rules.specs.Regions.Laws.{holds-says, apart-back, apart-before, apart-behind, none-apart, run-says, lowest-ext}
 use Rattle.rules.specs.Index.Walk.{pick-both}
 use Rattle.rules.specs.Paths.{isLive}
-use Rattle.rules.specs.Writing.{deletedKind, isDeleted, leastEnd}
+use Rattle.rules.specs.Writing.{deletedKind, isDeleted, undeleted, leastEnd}
 use Rattle.laws.proofs.Entries.EntryKinds.{deleted-alike}
 use Rattle.laws.proofs.Lists.Every.{not-both, and-map, or-map, or-left, pick-map, all-weaken, all-of, all-and, all-each, all-only, pairs-only, all-says, all-holds, two-says, two-holds, none-passes, every-map, every-ext, two-map, two-ext, le-largest, largest-le}
 use Rattle.laws.proofs.Lists.Perms.{perm-every, perm-any, perm-two}
@@ -280,14 +280,14 @@ unfolding dataEnd trimData withData
 trim-good g n e l = good-to g (trimData g n) e refl refl (λ q. omega arith)
 
 pub sound-reclaim : (g : Geometry) (es : List Entry) → regionsSound g es ≡ true
-    → regionsSound (trimData g (leastEnd es)) (only (λ e. not (isDeleted e)) es) ≡ true
+    → regionsSound (trimData g (leastEnd (undeleted es))) (undeleted es) ≡ true
 unfolding leastEnd
 sound-reclaim g es o =
-    let kept = only (λ e. not (isDeleted e)) es in
+    let kept = undeleted es in
     let p = sound-says g es o in
-    sound-holds (trimData g (leastEnd es)) kept (record {
+    sound-holds (trimData g (leastEnd (undeleted es))) kept (record {
       each =
-          all-weaken (λ e. (e .end ≤ leastEnd es) × (regionGood g e ≡ true)) _ (λ e q. trim-good g (leastEnd es) e (q .0) (q .1)) kept
+          all-weaken (λ e. (e .end ≤ leastEnd (undeleted es)) × (regionGood g e ≡ true)) _ (λ e q. trim-good g (leastEnd (undeleted es)) e (q .0) (q .1)) kept
           (all-and _ _ kept (le-largest (λ e. e .end) kept) (all-only _ (λ e. not (isDeleted e)) es (p .each)));
       two = pairs-only (λ e f. apart e f ≡ true) (λ e. not (isDeleted e)) es (p .two);
     })
@@ -302,10 +302,10 @@ ends-fit g es s o =
     all-weaken (λ e. Settled e × (regionGood g e ≡ true)) _ (λ e q. end-fits g e (placed g e (q .0) (q .1))) es
     (all-and Settled _ es s (sound-says g es o .each))
 
-pub trim-fits : (g : Geometry) (es : List Entry) → All Settled es → regionsSound g es ≡ true → dataEnd (trimData g (leastEnd es)) ≤ dataEnd g
+pub trim-fits : (g : Geometry) (es : List Entry) → All Settled es → regionsSound g es ≡ true → dataEnd (trimData g (leastEnd (undeleted es))) ≤ dataEnd g
 unfolding dataEnd trimData withData leastEnd
 trim-fits g es s o =
-    let h : leastEnd es ≤ dataEnd g = largest-le (λ e. e .end) (dataEnd g) _ (all-only _ (λ e. not (isDeleted e)) es (ends-fit g es s o)) in
+    let h : leastEnd (undeleted es) ≤ dataEnd g = largest-le (λ e. e .end) (dataEnd g) _ (all-only _ (λ e. not (isDeleted e)) es (ends-fit g es s o)) in
     omega arith
 
 -- ---- the geometries of create and reclaim

@@ -6,7 +6,7 @@ use mathlib.Core.List.{List, []}
 use mathlib.Core.Option.{Option, none, some}
 use native.Mathlib.Omega.{arith}
 use lib.Dec.{leb}
-use Rattle.rules.specs.SuperBlock.{version10}
+use Rattle.rules.specs.SuperBlock.{writable}
 use Rattle.rules.specs.Refusals.{Verdict, accepted, need, needFound, Volume, judge}
 use Rattle.rules.specs.Refusals.Laws.{then-next}
 use Rattle.rules.specs.Outcome.{done, conclude, onVolume}
@@ -34,8 +34,8 @@ pub passed-writable : (s : List ℕ) (v : Volume) (call : Volume → Verdict Wri
     → onWritable s call ≡ ending s (call v)
 unfolding onVolume
 passed-writable s v call o z =
-    let next : Volume → Verdict Written = λ u. need (leb (u .geometry .version) version10) 9 (call u) in
-    passed-need s (onWritable s call) z (leb (v .geometry .version) version10) 9 (call v) (omega arith) (ap (ending s) (then-next next o)) .1
+    let next : Volume → Verdict Written = λ u. need (writable (u .geometry)) 9 (call u) in
+    passed-need s (onWritable s call) z (writable (v .geometry)) 9 (call v) (omega arith) (ap (ending s) (then-next next o)) .1
 
 -- what is left then
 pub passed-done : (s t : List ℕ) (w : Written) → w ≡ ending s (accepted (done tt t [])) → w .image ≡ t

@@ -11,7 +11,7 @@ use Rattle.rules.specs.Lists.{pick}
 use Rattle.rules.specs.Lists.Laws.{clash, drop-take}
 use Rattle.rules.specs.Fields.{byteAt, le, splice, signedOf, stampIn, stampBytes}
 use Rattle.rules.specs.Fields.Laws.{length-splice, getD-splice-before, getD-splice-in, getD-splice-after, le-splice-in, le-splice-after}
-use Rattle.rules.specs.Index.{Entry, entry, itemAt, entryAt, runSlots, nameField, nameAt, fileField, runType, fileType, directoryType, liveType, slotBytes, countAt, stampAt, startAt, endAt, lengthAt, typeFile, typeDirectory, typeDeletedFile, typeDeletedDirectory}
+use Rattle.rules.specs.Index.{Entry, entry, itemAt, entryAt, runSlots, nameField, nameAt, fileField, runType, fileType, directoryType, liveType, slotBytes, countAt, stampAt, startAt, endAt, lengthAt, typeFile, typeDirectory, typeDeletedFile, typeDeletedDirectory, retyped}
 use Rattle.rules.specs.Index.Walk.{pick-both}
 use Rattle.rules.specs.Index.Laws.{name-at-bounds}
 use Rattle.rules.specs.Index.Items.{item-run}
@@ -69,25 +69,25 @@ module _ (s : List ℕ) (at : ℕ) (e : Entry) (stamp : ℤ) (room : at + 10 ≤
   typed-length = length-splice s at (deletedKind (e .kind) ∷ []) (omega arith)
 
   pub length-deleted : length (deleted s at e stamp) ≡ length s
-  unfolding deleted
+  unfolding deleted retyped
   length-deleted =
       length-splice (splice s at (deletedKind (e .kind) ∷ [])) (at + stampAt) (stampBytes stamp) (omega (arith, typed-length, length-stamp stamp)) ∙ typed-length
 
   pub take-deleted : (n : ℕ) → n ≤ at → take n (deleted s at e stamp) ≡ take n s
-  unfolding deleted
+  unfolding deleted retyped
   take-deleted n h =
       take-splice-before (splice s at (deletedKind (e .kind) ∷ [])) (at + stampAt) (stampBytes stamp) (omega (arith, typed-length)) n (omega arith)
       ∙ take-splice-before s at (deletedKind (e .kind) ∷ []) (omega arith) n h
 
   pub drop-deleted : (n : ℕ) → at + 10 ≤ n → drop n (deleted s at e stamp) ≡ drop n s
-  unfolding deleted
+  unfolding deleted retyped
   drop-deleted n h =
       drop-splice-after (splice s at (deletedKind (e .kind) ∷ [])) (at + stampAt) (stampBytes stamp) (omega (arith, typed-length)) n (omega (arith, length-stamp stamp))
       ∙ drop-splice-after s at (deletedKind (e .kind) ∷ []) (omega arith) n (omega arith)
 
 -- deleting in a part is deleting in the whole, further on
 pub deleted-part : (n : ℕ) (s : List ℕ) (at : ℕ) (e : Entry) (stamp : ℤ) → n + at + 10 ≤ length s → drop n (deleted s (n + at) e stamp) ≡ deleted (drop n s) at e stamp
-unfolding deleted
+unfolding deleted retyped
 deleted-part n s at e stamp h =
     let t : List ℕ = splice s (n + at) (deletedKind (e .kind) ∷ []) in
     let p : n + at + stampAt ≡ n + (at + stampAt) = omega arith in
@@ -140,7 +140,7 @@ module _ (a : List ℕ) (stamp : ℤ) (room : slotBytes ≤ length a) where
 
   -- what stands behind the stamp
   drop-gone : (n : ℕ) → 10 ≤ n → drop n (gone a stamp) ≡ drop n a
-  unfolding gone typed deleted entryAt
+  unfolding gone typed deleted retyped entryAt
   drop-gone n h = drop-deleted a 0 (entryAt 0 a) stamp (omega arith) n (omega arith)
 
   name-gone : nameField (gone a stamp) ≡ nameField a
@@ -164,7 +164,7 @@ module _ (a : List ℕ) (stamp : ℤ) (room : slotBytes ≤ length a) where
 -- a run that was deleted is the same entry, of the deleted kind and with the new stamp
 pub item-deleted : (left k : ℕ) (a : List ℕ) (e : Entry) (stamp : ℤ) → 0 < left → slotBytes * left ≤ length a → itemAt left k a ≡ entry e → runType (e .kind) ≡ true
     → itemAt left k (deleted a 0 e stamp) ≡ entry (deletedEntry e stamp)
-unfolding deleted gone typed
+unfolding deleted retyped gone typed
 item-deleted left k a e stamp more room q t =
     let h = entry-run left k a e q t in
     let l : slotBytes ≤ length a = omega arith in

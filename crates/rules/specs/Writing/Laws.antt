@@ -5,11 +5,9 @@ use mathlib.Core.Bool.{Bool, true, false, not}
 use mathlib.Core.List.{List, []}
 use mathlib.Core.Option.{Option, none, some}
 use lib.ListN.{length}
-use lib.Dec.{eqb, leb}
 use lib.IntN.{ℤ}
-use borrow.Author.Tests.{le-leb, lt-leb}
 use Rattle.rules.specs.Lists.{isSome}
-use Rattle.rules.specs.SuperBlock.{Geometry, lengthGood, fieldOf, geometryGood, blockLength, extendData, trimData, restamp, putSizes, version10}
+use Rattle.rules.specs.SuperBlock.{Geometry, lengthGood, fieldOf, geometryGood, blockLength, extendData, trimData, restamp, putSizes, writable}
 use Rattle.rules.specs.Names.{pathGood, newPathGood, volumeNameGood, leading}
 use Rattle.rules.specs.Index.{Entry, slotAt, continuing}
 use Rattle.rules.specs.Regions.{blocksNeeded}
@@ -18,7 +16,7 @@ use Rattle.rules.specs.Refusals.{Verdict, refused, accepted, Volume, ent
 use Rattle.rules.specs.Refusals.Laws.{need-true, need-false, found-none, found-some}
 use Rattle.rules.specs.Outcome.{Outcome, done}
 use Rattle.rules.specs.Outcome.Laws.{denied, conclude-refused, conclude-accepted, volume-refused, volume-denied, volume-done}
-use Rattle.rules.specs.Writing.{Written, New, kindOf, bytesOf, formatOf, freshGeometry, formatted, createOf, nearestLive, Place, placeRun, placeFile, newEntry, created, deleteOf, deleted, reclaimOf, leastEnd, cleared}
+use Rattle.rules.specs.Writing.{Written, New, kindOf, bytesOf, formatOf, freshGeometry, formatted, createOf, nearestLive, Place, placeRun, placeFile, newEntry, created, deleteOf, deleted, reclaimOf, isDeleted, undeleted, leastEnd, cleared}
 
 -- what a program's number and the image that it leaves come to
 abbrev pub writtenAs : ℕ → List ℕ → Written
@@ -71,27 +69,21 @@ module _ (s : List ℕ) (n : ℕ) (bad : judge s ≡ refused n) where
 
 -- ---- one that opens, of a version that may only be read
 module _ (s : List ℕ) (v : Volume) (opens : judge s ≡ accepted v) where
-  module _ (later : version10 < v .geometry .version) where
-    old : leb (v .geometry .version) version10 ≡ false
-    old = lt-leb (v .geometry .version) version10 later
-
+  module _ (later : writable (v .geometry) ≡ false) where
     pub create-later : (new : New) (path : List ℕ) (stamp : ℤ) → createOf s new path stamp ≡ refusedWrite s 9
     unfolding createOf
-    create-later new path stamp = volume-denied tt s [] _ v 9 opens (need-false 9 _ old)
+    create-later new path stamp = volume-denied tt s [] _ v 9 opens (need-false 9 _ later)
 
     pub delete-later : (path : List ℕ) (stamp : ℤ) → deleteOf s path stamp ≡ refusedWrite s 9
     unfolding deleteOf
-    delete-later path stamp = volume-denied tt s [] _ v 9 opens (need-false 9 _ old)
+    delete-later path stamp = volume-denied tt s [] _ v 9 opens (need-false 9 _ later)
 
     pub reclaim-later : (stamp : ℤ) → reclaimOf s stamp ≡ refusedWrite s 9
     unfolding reclaimOf
-    reclaim-later stamp = volume-denied tt s [] _ v 9 opens (need-false 9 _ old)
+    reclaim-later stamp = volume-denied tt s [] _ v 9 opens (need-false 9 _ later)
 
   -- ---- and one that may be written
-  module _ (current : v .geometry .version ≤ version10) where
-    may : leb (v .geometry .version) version10 ≡ true
-    may = le-leb (v .geometry .version) version10 current
-
+  module _ (may : writable (v .geometry) ≡ true) where
     module _ (new : New) (path : List ℕ) (stamp : ℤ) where
       pub create-name : newPathGood path ≡ false → createOf s new path stamp ≡ refusedWrite s 10
       unfolding createOf
@@ -155,7 +147,7 @@ module _ (s : List ℕ) (v : Volume) (opens : judge s ≡ accepted v) where
           delete-done b = volume-done tt s [] _ v _ opens (need-true 9 _ may ∙ need-true 10 _ p ∙ found-some 11 _ f ∙ need-true 14 _ (rw b))
 
     pub reclaim-done : (stamp : ℤ)
-        → let g : Geometry = restamp (v .geometry) (trimData (v .geometry) (leastEnd (entries v))) stamp in
-        reclaimOf s stamp ≡ wrote (cleared (putSizes s g) g (entries v))
+        → let g : Geometry = restamp (v .geometry) (trimData (v .geometry) (leastEnd (undeleted (entries v)))) stamp in
+        reclaimOf s stamp ≡ wrote (cleared isDeleted (putSizes s g) g (entries v))
     unfolding reclaimOf
     reclaim-done stamp = volume-done tt s [] _ v _ opens (need-true 9 _ may)
