@@ -1,6 +1,7 @@
 // Block numbers, slot numbers and byte offsets: three units, converted only by the functions here.
 
 ghost use mathlib.Core.Path.{_≡_};
+ghost use mathlib.Core.Bool.{true};
 ghost use Prim.Native.Nat.{_+_, _-_, _*_, _/_, _^_, _≤_, _<_, max};
 ghost use lib.Dec.{ltb, leb};
 
@@ -76,9 +77,10 @@ impl Block {
         Block(self.0 + blocks)
     }
 
-    // Whether there is room for so many blocks from here up to `end`; their sum may pass 64 bits.
+    // Whether there is room for so many blocks from here up to `end`. The sum may pass 64 bits; where there is room, it does not.
     pub fn has_room(self, blocks: u64, end: Block) -> bool
         ensures { λ r. ⌜ r ≡ leb (self .0 + blocks) (end .0) ⌝ }
+        ensures held { λ r. ⌜ (r ≡ true → self .0 + blocks < 2 ^ 64) ⌝ }
     {
         if end.0 < self.0 {
             return false;

@@ -35,7 +35,7 @@ returns-3 : tie.Need-returns-3
 unfolding areasFit dataEnd
 returns-3 c =
     let e = c .before .before .before in
-    rw (sized (e .before .before), le-leb _ _ (e .if2 .left), ← c .before .ceiling .ensures, ← c .before .before .data-start .ensures) (c .has-room .ensures)
+    rw (sized (e .before .before), le-leb _ _ (e .if2 .left), ← c .before .ceiling .ensures, ← c .before .before .data-start .ensures) (c .has-room .ensures .0)
 
 pub areas-fit-spec : {M : Type 1} → statement M
 areas-fit-spec =
