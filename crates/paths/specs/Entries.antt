@@ -16,23 +16,10 @@ use Rattle.rules.specs.Index.{Entry, runType, liveType, typeDirectory, nameFiel
 use Rattle.rules.specs.Names.{isBelow}
 use Rattle.rules.specs.Paths.{isLive, liveAt, isDirectoryAt}
 use Rattle.rules.specs.Index.Items.{name-field, byte-drop, type-drop}
-use Rattle.index.specs.declared.Cursor.{Cursor}
 use Rattle.index.specs.declared.Head.{Head}
-use Rattle.index.specs.declared.Next.{Next}
-use Rattle.index.specs.declared.Next.the-variants.{End, Found}
 use Rattle.index.specs.View.{headView, pathAt}
-use Rattle.index.specs.Steps.{HeadIn, Step, Told, entriesFrom}
+use Rattle.index.specs.Steps.{HeadIn}
 use Rattle.paths.specs.View.{liveBelow}
-
--- ---- what a step said, by its answer
-module _ (s : List ℕ) (c : Cursor) (r : Next) (told : Told s c r) where
-  pub told-end : r ≡ End → entriesFrom s c ≡ []
-  unfolding Told
-  told-end e = rw e at told
-
-  pub told-found : (h : Head) (d : Cursor) → r ≡ Found h d → Step s c h d
-  unfolding Told
-  told-found h d e = rw e at told
 
 -- ---- a turn of a walk over es: none is left, or x is next and xs behind it
 module _ (p : Entry → Bool) (es : List Entry) where

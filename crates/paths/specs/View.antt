@@ -25,7 +25,7 @@ unfoldable pub passes : Sought → List ℕ → Entry → Bool
 passes byPath p e = liveAt p e
 passes byDirectory p e = isDirectoryAt p e
 passes byBelow p e = liveBelow p e
-passes (bySlot k) p e = isLive e && leb k (e .slot)
+passes (bySlot k) p e = isLive e && leb (k .0) (e .slot)
 
 -- ---- what was found
 unfoldable pub searchView : List ℕ → Search → Option Entry
