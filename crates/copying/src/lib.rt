@@ -1,9 +1,10 @@
-// Bytes copied into a lent slice, zeros behind them, and the one place that lends a part of an image for writing.
+// Bytes copied into a lent slice, zeros behind them, and the places that lend a part of an image for writing and reading.
 
+use units::Offset;
 ghost use mathlib.Core.Path.{_≡_};
 ghost use Prim.Native.Nat.{_+_, _-_, _≤_, _<_};
 ghost use lib.ListN.{length, replicate};
-ghost use Rattle.rules.specs.Lists.{padded};
+ghost use Rattle.rules.specs.Lists.{padded, part};
 ghost use Rattle.rules.specs.Fields.{splice};
 
 // The first bytes of dst become src; the others stay.
@@ -40,9 +41,21 @@ pub fn copy_and_zero(dst: &mut [u8], src: &[u8])
 }
 
 // The bytes of img from a up to e become src, with zeros behind it: a part of the image is lent on.
-pub fn write_part(img: &mut [u8], a: usize, e: usize, src: &[u8])
-    requires { ⌜ (a + length (now src) ≤ e) × (e ≤ length (now img)) ⌝ }
-    ensures { λ _. ⌜ now (img .exit) ≡ splice (now (img .entry)) a (padded (now (src .entry)) (e - a)) ⌝ }
+pub fn write_part(img: &mut [u8], a: Offset, e: Offset, src: &[u8])
+    requires { ⌜ (a .0 + length (now src) ≤ e .0) × (e .0 ≤ length (now img)) ⌝ }
+    ensures { λ _. ⌜ now (img .exit) ≡ splice (now (img .entry)) (a .0) (padded (now (src .entry)) (e .0 - a .0)) ⌝ }
 {
-    copy_and_zero(&mut img[a..e], src)
+    let start = a.index();
+    let end = e.index();
+    copy_and_zero(&mut img[start..end], src)
+}
+
+// The first n bytes of out become those of img from `at` on.
+pub fn copy_out(out: &mut [u8], img: &[u8], at: Offset, n: usize)
+    requires { ⌜ (at .0 + n ≤ length (now img)) × (n ≤ length (now out)) ⌝ }
+    ensures { λ _. ⌜ now (out .exit) ≡ splice (now (out .entry)) 0 (part (now (img .entry)) (at .0) n) ⌝ }
+{
+    let start = at.index();
+    let end = start + n;
+    copy_into(out, &img[start..end]);
 }

@@ -21,7 +21,6 @@ use Rattle.rules.specs.Writing.Laws.{refusedWrite, wrote, delete-done}
 use Rattle.geometry.specs.View.{geometryView}
 use Rattle.geometry.specs.declared.Geometry.{Geometry as Held}
 use Rattle.units.specs.declared.Offset.{Offset}
-use Rattle.super_block.specs.Written.{byte-alone, stamp-bits}
 use Rattle.laws.proofs.Index.Items.{slotsIn}
 use Rattle.laws.proofs.Index.Places.{Found, first-split, slot-there, place-within}
 use Rattle.laws.proofs.Images.Areas.{slot-on, inner-end}
@@ -31,20 +30,6 @@ use Rattle.erasing.specs.declared.Doom.{Doom}
 use Rattle.erasing.specs.declared.Doom.the-variants.{Refused, At}
 
 -- ---- the nine bytes
-pub kind-file : (t : ℕ) → fileType t ≡ true → typeDeletedFile ≡ deletedKind t
-unfolding deletedKind
-kind-file t f = sym (pick-true _ _ f)
-
-pub kind-directory : (t : ℕ) → fileType t ≡ false → typeDeletedDirectory ≡ deletedKind t
-unfolding deletedKind
-kind-directory t f = sym (pick-false _ _ f)
-
--- written as fields of one byte and of eight
-pub retyped-put : (s t u : List ℕ) (at b kind bits : ℕ) → b ≡ kind → b < 256 → bits < 2 ^ 64
-    → t ≡ splice s at (leBytes 1 b) → u ≡ splice t (at + 2) (leBytes 8 bits) → u ≡ retyped s at kind (signedOf bits)
-unfolding retyped
-retyped-put s t u at b kind bits is low fit e f = rw (f, e, byte-alone b low, is, stamp-bits bits fit)
-
 pub retyped-as : (s u : List ℕ) (at b kind : ℕ) (z : ℤ) → b ≡ kind → u ≡ retyped s at b z → u ≡ retyped s at kind z
 retyped-as s u at b kind z e f = f ∙ ap (λ t. retyped s at t z) e
 

@@ -23,42 +23,16 @@ use Rattle.index.specs.declared.Cursor.{Cursor}
 use Rattle.index.specs.declared.Head.{Head}
 use Rattle.index.specs.View.{itemsFrom, headView}
 use Rattle.index.specs.Steps.{Walks, HeadIn, Step, entriesFrom}
-use Rattle.super_block.specs.Written.{join}
 use Rattle.laws.proofs.Index.ListFacts.{drop-splice-after}
 use Rattle.laws.proofs.Index.Unused.{length-unusedBytes}
 use Rattle.judging.specs.View.{volumeOf}
 use Rattle.laws.proofs.Images.Areas.{index-start}
 use Rattle.laws.proofs.Images.Sizes.{restamp-index, sizes-long}
 
--- ---- unused slots, one at a time
-one-slot : length (padded (typeUnused ∷ []) 64) ≡ 64
-one-slot = length-padded (typeUnused ∷ []) 64 (omega arith)
-
-pub run-turn : (s t : List ℕ) (at n : ℕ) → 0 < n → at + 64 * n ≤ length s → t ≡ splice s at (padded (typeUnused ∷ []) (at + 64 - at))
-    → splice t (at + 64) (unusedBytes (n - 1)) ≡ splice s at (unusedBytes n)
-unfolding unusedBytes
-run-turn s t at zero low fits e = absurd (omega arith)
-run-turn s t at (suc m) low fits e =
-    let w : at + 64 - at ≡ 64 = omega arith in
-    let l : suc m - 1 ≡ m = omega arith in
-    rw (e, w, l) (join s at (padded (typeUnused ∷ []) 64) 64 (unusedBytes m) one-slot (omega (arith, length-unusedBytes m)))
-
-pub run-end : (s : List ℕ) (at n : ℕ) → n ≡ 0 → splice s at (unusedBytes n) ≡ s
-unfolding unusedBytes
-run-end s at n z = rw z (splice-nil s at)
-
 -- ---- an entry that stands at the front
 -- the image once its run is cleared, if it is deleted
 unfoldable pub headCleared : List ℕ → Head → List ℕ
 headCleared s h = pick (deletedType (h .kind)) (splice s (h .at .0) (unusedBytes (h .slots))) s
-
-pub deleted-directory : (t : ℕ) → t ≡ 0x19 → true ≡ deletedType t
-unfolding deletedType
-deleted-directory t e = rw (eq-eqb t 0x19 e)
-
-pub deleted-other : (t : ℕ) → (t ≡ 0x19 → ⊥) → eqb t 0x1A ≡ deletedType t
-unfolding deletedType
-deleted-other t d = rw (ne-eqb t 0x19 d)
 
 -- what is written lies before the place n
 module _ (s : List ℕ) (h : Head) (head : HeadIn s h) where

@@ -2,10 +2,10 @@
 
 use geometry::Geometry;
 use index::Cursor;
-use index::Head;
 use index::Next;
 use judging::Judged;
 use paths::Search;
+use slots::Head;
 use units::Block;
 use units::Offset;
 ghost use mathlib.Core.Path.{_≡_};
@@ -21,11 +21,6 @@ ghost use Rattle.index.specs.Steps.{Walks, HeadIn, entriesFrom};
 ghost use Rattle.judging.specs.View.{Opened};
 ghost use Rattle.erasing.specs.Delete.{Planned};
 ghost use Rattle.erasing.specs.Reclaim.{headCleared, reclaimed};
-
-// The place of an entry's stamp in its first slot.
-const STAMP: usize = 2;
-
-const SLOT: usize = 64;
 
 // ---- delete
 
@@ -67,15 +62,6 @@ fn plan_delete(img: &[u8], path: &[u8]) -> Doom
     }
 }
 
-// Another type and stamp at the entry whose first slot is at `at`.
-fn retype(img: &mut [u8], at: usize, kind: u8, stamp: u64)
-    requires { ⌜ at + 64 ≤ length (now img) ⌝ }
-    ensures { λ _. ⌜ now (img .exit) ≡ retyped (now (img .entry)) at kind (signedOf stamp) ⌝ }
-{
-    fields::put_le(img, at, 1, fields::wide(kind));
-    fields::put_le(img, at + STAMP, 8, stamp);
-}
-
 // The refusal, 0 on success; `stamp` is the stamp's 64 bits.
 pub fn delete(img: &mut [u8], path: &[u8], stamp: u64) -> u32
     ensures { λ r. ⌜ writtenAs r (now (img .exit)) ≡ deleteOf (now (img .entry)) (now (path .entry)) (signedOf stamp) ⌝ }
@@ -83,7 +69,7 @@ pub fn delete(img: &mut [u8], path: &[u8], stamp: u64) -> u32
     match plan_delete(img, path) {
         Doom::Refused(n) => n as u32,
         Doom::At(at, kind) => {
-            retype(img, at.0, slots::deleted_kind(kind), stamp);
+            runs::retype(img, at, slots::deleted_kind(kind), stamp);
             0
         }
     }
@@ -91,27 +77,13 @@ pub fn delete(img: &mut [u8], path: &[u8], stamp: u64) -> u32
 
 // ---- reclaim
 
-// So many slots from `at` on become unused.
-fn clear_run(img: &mut [u8], at: usize, slots: u64)
-    requires { ⌜ at + 64 * slots ≤ length (now img) ⌝ }
-    ensures { λ _. ⌜ now (img .exit) ≡ splice (now (img .entry)) at (unusedBytes slots) ⌝ }
-{
-    let mut place = at;
-    let mut left = slots;
-    while 0 < left {
-        copying::write_part(img, place, place + SLOT, b"\x10");
-        place += SLOT;
-        left -= 1;
-    }
-}
-
 // The run of an entry is cleared if it is deleted.
 fn clear_head(img: &mut [u8], h: Head)
     requires { ⌜ HeadIn (now img) h ⌝ }
     ensures { λ _. ⌜ now (img .exit) ≡ headCleared (now (img .entry)) h ⌝ }
 {
     if slots::is_deleted(h.kind) {
-        clear_run(img, h.at.0, h.slots);
+        runs::clear_run(img, h.at, h.slots);
     }
 }
 

@@ -1,9 +1,10 @@
 // Little-endian fields of every width, read and written by one loop each, and the checksum.
 
+use units::Offset;
 ghost use mathlib.Core.Path.{_≡_};
 ghost use Prim.Native.Nat.{_+_, _*_, _%_, _^_, _≤_, _<_};
 ghost use lib.ListN.{length};
-ghost use Rattle.rules.specs.Fields.{le, leBytes, splice, byteSum, checks, checksumOf, upToZero};
+ghost use Rattle.rules.specs.Fields.{le, leBytes, splice, signedOf, stampBytes, byteSum, checks, checksumOf, upToZero};
 
 // A byte as a number; that it is below 256 is said once, here.
 pub fn wide(x: u8) -> u64
@@ -13,39 +14,40 @@ pub fn wide(x: u8) -> u64
 }
 
 // The number that the w bytes from `at` on say.
-pub fn le_at(s: &[u8], at: usize, w: usize) -> u64
-    requires { ⌜ (w ≤ 8) × (at + w ≤ length (now s)) ⌝ }
-    ensures { λ r. ⌜ (r ≡ le w (now (s .entry)) at) × (r < 2 ^ (8 * w)) ⌝ }
+pub fn le_at(s: &[u8], at: Offset, w: usize) -> u64
+    requires { ⌜ (w ≤ 8) × (at .0 + w ≤ length (now s)) ⌝ }
+    ensures { λ r. ⌜ (r ≡ le w (now (s .entry)) (at .0)) × (r < 2 ^ (8 * w)) ⌝ }
 {
+    let first = at.index();
     let mut r: u64 = 0;
-    let mut o = at + w;
-    while at < o {
+    let mut o = first + w;
+    while first < o {
         o -= 1;
         r = wide(s[o]) + 256 * r;
     }
     r
 }
 
-pub fn le64_at(s: &[u8], at: usize) -> u64
-    requires { ⌜ at + 8 ≤ length (now s) ⌝ }
-    ensures { λ r. ⌜ r ≡ le 8 (now (s .entry)) at ⌝ }
+pub fn le64_at(s: &[u8], at: Offset) -> u64
+    requires { ⌜ at .0 + 8 ≤ length (now s) ⌝ }
+    ensures { λ r. ⌜ r ≡ le 8 (now (s .entry)) (at .0) ⌝ }
 {
     le_at(s, at, 8)
 }
 
-pub fn le32_at(s: &[u8], at: usize) -> u32
-    requires { ⌜ at + 4 ≤ length (now s) ⌝ }
-    ensures { λ r. ⌜ r ≡ le 4 (now (s .entry)) at ⌝ }
+pub fn le32_at(s: &[u8], at: Offset) -> u32
+    requires { ⌜ at .0 + 4 ≤ length (now s) ⌝ }
+    ensures { λ r. ⌜ r ≡ le 4 (now (s .entry)) (at .0) ⌝ }
 {
     le_at(s, at, 4) as u32
 }
 
 // Writes the w lowest bytes of v from `at` on.
-pub fn put_le(s: &mut [u8], at: usize, w: usize, v: u64)
-    requires { ⌜ at + w ≤ length (now s) ⌝ }
-    ensures { λ _. ⌜ now (s .exit) ≡ splice (now (s .entry)) at (leBytes w v) ⌝ }
+pub fn put_le(s: &mut [u8], at: Offset, w: usize, v: u64)
+    requires { ⌜ at .0 + w ≤ length (now s) ⌝ }
+    ensures { λ _. ⌜ now (s .exit) ≡ splice (now (s .entry)) (at .0) (leBytes w v) ⌝ }
 {
-    let mut o = at;
+    let mut o = at.index();
     let mut n = w;
     let mut x = v;
     while 0 < n {
@@ -54,6 +56,14 @@ pub fn put_le(s: &mut [u8], at: usize, w: usize, v: u64)
         n -= 1;
         x = x / 256;
     }
+}
+
+// A stamp by its bits. That they are below 2 ^ 64, as the rules' stamp has them, is said once, here.
+pub fn put_stamp(s: &mut [u8], at: Offset, bits: u64)
+    requires { ⌜ at .0 + 8 ≤ length (now s) ⌝ }
+    ensures { λ _. ⌜ now (s .exit) ≡ splice (now (s .entry)) (at .0) (stampBytes (signedOf bits)) ⌝ }
+{
+    put_le(s, at, 8, bits);
 }
 
 // The sum of the bytes, modulo 256.

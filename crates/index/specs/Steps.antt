@@ -26,16 +26,6 @@ pub record Walks (s : List ℕ) (c : Cursor) : Type 0 where
   pub inside : Inside s c
   pub sound : faultless (itemsFrom s c) ≡ true
 
--- a head that was found there: its run lies in the image, and its name is good
-pub record HeadIn (s : List ℕ) (h : Head) : Type 0 where
-  pub fits : h .at .0 + 64 * h .slots ≤ length s
-  pub short : length s ≤ 16_777_216
-  pub low : 1 ≤ h .slots
-  pub few : h .slots ≤ 256
-  pub type : runType (h .kind) ≡ true → h .kind ≡ getD s (h .at .0) 0
-  pub count : runType (h .kind) ≡ true → h .slots ≡ 1 + getD s (h .at .0 + 1) 0
-  pub named : runType (h .kind) ≡ true → nameGood (nameField (drop (h .at .0) s)) ≡ true
-
 pub record Step (s : List ℕ) (c : Cursor) (h : Head) (d : Cursor) : Type 0 where
   pub entries : entriesFrom s c ≡ headView s h ∷ entriesFrom s d
   pub walks : Walks s d
@@ -49,54 +39,6 @@ pub record Step (s : List ℕ) (c : Cursor) (h : Head) (d : Cursor) : Type 0 whe
 unfoldable pub Told : List ℕ → Cursor → Next → Type 0
 Told s c End = entriesFrom s c ≡ []
 Told s c (Found h d) = Step s c h d
-
--- ---- the head of a run is as it stands
-head-slot : (k : ℕ) (a : List ℕ) → headOf k a .slot ≡ k
-unfolding headOf entryAt unusableAt
-head-slot k a = pick-both (λ (e : Entry). e .slot ≡ k) (runType (byteAt a 0)) (entryAt k a) (unusableAt k a) refl refl
-
-module _ (s : List ℕ) (at k : ℕ) (h : Head) (view : headView s h ≡ headOf k (drop at s)) where
-  kind-is : h .kind ≡ headOf k (drop at s) .kind
-  unfolding headView
-  kind-is = ap (λ (e : Entry). e .kind) view
-
-  pub slots-is : h .slots ≡ headOf k (drop at s) .slots
-  unfolding headView
-  slots-is = ap (λ (e : Entry). e .slots) view
-
-  pub slot-is : h .slot .0 ≡ k
-  unfolding headView
-  slot-is = ap (λ (e : Entry). e .slot) view ∙ head-slot k (drop at s)
-
-  starts-run : runType (h .kind) ≡ true → runType (byteAt (drop at s) 0) ≡ true
-  unfolding unusableAt
-  starts-run t = by (runType (byteAt (drop at s) 0)) refl
-    where
-      by : (b : Bool) → runType (byteAt (drop at s) 0) ≡ b → b ≡ true
-      by true e = refl
-      by false e =
-          let u : h .kind ≡ typeUnusable = kind-is ∙ ap (λ (x : Entry). x .kind) (head-unusable k (drop at s) e) in
-          clash (sym t ∙ ap runType u ∙ unusable-no-run)
-
-  type-is : runType (h .kind) ≡ true → h .kind ≡ getD s at 0
-  unfolding entryAt
-  type-is t = kind-is ∙ ap (λ (x : Entry). x .kind) (head-run k (drop at s) (starts-run t)) ∙ type-drop s at
-
-  count-is : runType (h .kind) ≡ true → h .slots ≡ 1 + getD s (at + 1) 0
-  unfolding entryAt runSlots
-  count-is t = slots-is ∙ ap (λ (x : Entry). x .slots) (head-run k (drop at s) (starts-run t)) ∙ ap (λ (x : ℕ). 1 + x) (byte-drop s at 1)
-
-  pub head-in : (left : ℕ) → Stands left k (drop at s) → at + 64 * left ≤ length s → length s ≤ 16_777_216 → h .at .0 ≡ at → h .slots ≤ 256 → HeadIn s h
-  head-in left st f l p w =
-      record {
-        fits = omega (arith, slots-is, st .fits);
-        short = l;
-        low = omega (arith, slots-is, st .low);
-        few = w;
-        type = λ t. rw p (type-is t);
-        count = λ t. rw p (count-is t);
-        named = λ t. rw p (st .named (starts-run t));
-      }
 
 -- ---- a step that finds an entry
 slots-entry : (e : Entry) → e .slots ≡ slotsOf (entry e)

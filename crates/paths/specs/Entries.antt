@@ -33,41 +33,6 @@ module _ (p : Entry → Bool) (es : List Entry) where
     pub first-next : p x ≡ false → first p xs ≡ first p es
     first-next t = sym (rw next (first-later p x xs t))
 
--- ---- the name of a head's run, of which the field starts nm bytes behind the slot and the first zero lies at n
-module _ (s : List ℕ) (h : Head) (head : HeadIn s h) (run : runType (h .kind) ≡ true) where
-  path-is : headView s h .path ≡ upToZero (nameField (drop (h .at .0) s))
-  unfolding headView pathAt
-  path-is = pick-true _ _ run
-
-  slots-is : runSlots (drop (h .at .0) s) ≡ h .slots
-  unfolding runSlots
-  slots-is = ap (λ (x : ℕ). 1 + x) (byte-drop s (h .at .0) 1) ∙ sym (head .count run)
-
-  type-is : byteAt (drop (h .at .0) s) 0 ≡ h .kind
-  type-is = type-drop s (h .at .0) ∙ sym (head .type run)
-
-  module _ (nm n : ℕ) (name : nm ≡ nameAt (h .kind)) where
-    abbrev field : List ℕ
-    field = take (h .at .0 + 64 * h .slots - (h .at .0 + nm)) (drop (h .at .0 + nm) s)
-
-    pub name-fits : nm ≤ 34 → n ≤ length field → h .at .0 + nm + n ≤ length s
-    name-fits w l =
-        let m : ℕ = h .at .0 + 64 * h .slots - (h .at .0 + nm) in
-        omega (arith, head .fits, head .low, length-take m (drop (h .at .0 + nm) s), length-drop (h .at .0 + nm) s)
-
-    pub name-part : n ≡ length (upToZero field) → n ≤ length field → part s (h .at .0 + nm) n ≡ headView s h .path
-    unfolding part
-    name-part e l =
-        let f : nameField (drop (h .at .0) s) ≡ field = name-field s (h .at .0) ∙ rw (slots-is, type-is, ← name) in
-        let m : ℕ = h .at .0 + 64 * h .slots - (h .at .0 + nm) in
-        let b : n ≤ m = omega (arith, length-take m (drop (h .at .0 + nm) s)) in
-        sym (path-is ∙ ap upToZero f ∙ upToZero-take field ∙ rw (← e) (take-take n m (drop (h .at .0 + nm) s) b))
-
--- what is lent from a name's place up to its end
-pub lent-name : (s : List ℕ) (at n : ℕ) → take (at + n - at) (drop at s) ≡ part s at n
-unfolding part
-lent-name s at n = let e : at + n - at ≡ n = omega arith in rw e
-
 -- ---- a head is tested by its type first
 module _ (s p : List ℕ) (h : Head) where
   pub live-no : liveType (h .kind) ≡ false → liveAt p (headView s h) ≡ false

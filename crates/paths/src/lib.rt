@@ -1,9 +1,9 @@
 // Paths of entries, compared with a path and looked up, by walks from entry to entry.
 
 use index::Cursor;
-use index::Head;
 use index::Next;
 use index::next_entry;
+use slots::Head;
 use units::Slot;
 ghost use mathlib.Core.Path.{_≡_};
 ghost use mathlib.Core.Bool.{true, _&&_};
@@ -17,12 +17,6 @@ ghost use Rattle.rules.specs.Paths.{liveAt, isDirectoryAt, lookup, nextLive, di
 ghost use Rattle.index.specs.View.{headView};
 ghost use Rattle.index.specs.Steps.{Walks, HeadIn, entriesFrom};
 ghost use Rattle.paths.specs.View.{Searched, isFound, liveBelow, passes};
-
-// Where a name lies in the image.
-pub struct Name {
-    pub at: usize,
-    pub len: usize,
-}
 
 pub enum Search {
     Nothing,
@@ -59,32 +53,6 @@ pub fn is_below(above: &[u8], path: &[u8]) -> bool
     same_bytes(above, &path[..n])
 }
 
-// Where the name of a run lies: it ends at the first zero of its field.
-pub fn name_of(img: &[u8], h: Head) -> Name
-    requires { ⌜ HeadIn (now img) h × (runType (h .kind) ≡ true) ⌝ }
-    ensures { λ r. ⌜ part (now (img .entry)) (r .at) (r .len) ≡ headView (now (img .entry)) h .path ⌝ }
-    ensures inside { λ r. ⌜ r .at + r .len ≤ length (now (img .entry)) ⌝ }
-{
-    let at = h.at.0;
-    let name = at + slots::name_at(h.kind) as usize;
-    let end = at + (64 * h.slots) as usize;
-    Name {
-        at: name,
-        len: fields::zero_at(&img[name..end]),
-    }
-}
-
-// The path of a run, as a part of the image.
-pub fn path_of(img: &[u8], h: Head) -> &[u8]
-    requires { ⌜ HeadIn (now img) h × (runType (h .kind) ≡ true) ⌝ }
-    ensures { λ r. ⌜ now r ≡ headView (now (img .entry)) h .path ⌝ }
-{
-    let name = name_of(img, h);
-    let at = name.at;
-    let end = at + name.len;
-    &img[at..end]
-}
-
 // Whether the entry is live and has this path.
 pub fn path_is(img: &[u8], h: Head, path: &[u8]) -> bool
     requires { ⌜ HeadIn (now img) h ⌝ }
@@ -93,7 +61,7 @@ pub fn path_is(img: &[u8], h: Head, path: &[u8]) -> bool
     if !slots::is_live(h.kind) {
         return false;
     }
-    same_bytes(path_of(img, h), path)
+    same_bytes(slots::path_of(img, h), path)
 }
 
 // Whether the entry is the live directory of this path.
@@ -104,7 +72,7 @@ pub fn directory_is(img: &[u8], h: Head, path: &[u8]) -> bool
     if h.kind != slots::DIRECTORY {
         return false;
     }
-    same_bytes(path_of(img, h), path)
+    same_bytes(slots::path_of(img, h), path)
 }
 
 // Whether the entry is live and lies below this path.
@@ -115,7 +83,7 @@ fn lies_below(img: &[u8], h: Head, path: &[u8]) -> bool
     if !slots::is_live(h.kind) {
         return false;
     }
-    is_below(path, path_of(img, h))
+    is_below(path, slots::path_of(img, h))
 }
 
 // Whether the entry is live and its first slot is not below this one.

@@ -1,3 +1,0 @@
-pub mod Site
-pub mod Run
-pub mod Placed

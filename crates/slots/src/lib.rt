@@ -1,10 +1,16 @@
-// Slots of the index area: the one owner of their layout in code. What a slot's first byte says, and where a name lies in a run.
+// Slots of the index area: the one owner of their layout in code. What a slot's first byte says, and an entry's fields and name.
 
+use units::Block;
+use units::Offset;
+use units::Slot;
 ghost use mathlib.Core.Path.{_≡_};
-ghost use Prim.Native.Nat.{_≤_};
-ghost use Rattle.rules.specs.Index.{fileType, runType, liveType, deletedType, strayType, nameAt, continuing};
-ghost use Rattle.rules.specs.Index.Items.{entryType};
+ghost use mathlib.Core.Bool.{true};
+ghost use Prim.Native.Nat.{_+_, _*_, _/_, _≤_, _<_};
+ghost use lib.ListN.{length, getD, drop};
+ghost use Rattle.rules.specs.Index.{fileType, runType, liveType, deletedType, strayType, nameAt, continuing, runSlots, nameField, nameGood, fileField, entryAt};
+ghost use Rattle.rules.specs.Index.Items.{entryType, headOf};
 ghost use Rattle.rules.specs.Writing.{deletedKind};
+ghost use Rattle.slots.specs.View.{headView, HeadIn};
 
 // ---- what a slot's first byte says
 
@@ -101,18 +107,154 @@ pub fn is_stray(kind: u8) -> bool
     kind == MARKER
 }
 
+// ---- where an entry's fields lie in its first slot
+
+pub const COUNT: u64 = 1;
+
+pub const STAMP: u64 = 2;
+
+pub const START: u64 = 10;
+
+pub const END: u64 = 18;
+
+pub const LENGTH: u64 = 26;
+
+const FILE_NAME: u64 = 34;
+
+const DIRECTORY_NAME: u64 = 10;
+
+// An entry as it stands in its first slot; the stamp is held as its bits.
+pub struct Head {
+    pub at: Offset,
+    pub kind: u8,
+    pub slot: Slot,
+    pub slots: u64,
+    pub stamp: u64,
+    pub start: Block,
+    pub end: Block,
+    pub length: u64,
+}
+
+// The first byte of the slot at `at`.
+pub fn kind_at(img: &[u8], at: Offset) -> u8
+    requires { ⌜ at .0 < length (now img) ⌝ }
+    ensures { λ r. ⌜ r ≡ getD (now (img .entry)) (at .0) 0 ⌝ }
+{
+    let i = at.index();
+    img[i]
+}
+
+// The slots of the run at `at`: the first, and those that continue its name.
+pub fn slots_at(img: &[u8], at: Offset) -> u64
+    requires { ⌜ at .0 + 64 ≤ length (now img) ⌝ }
+    ensures { λ r. ⌜ (r ≡ runSlots (drop (at .0) (now (img .entry)))) × (1 ≤ r) × (r ≤ 256) ⌝ }
+{
+    1 + fields::le_at(img, at.after(COUNT), 1)
+}
+
 // ---- a name in its run
 
 // Where the name starts in the first slot of an entry of this kind.
 pub fn name_at(kind: u8) -> u64
     ensures { λ r. ⌜ (r ≡ nameAt kind) × (r ≤ 34) ⌝ }
 {
-    if is_file(kind) { 34 } else { 10 }
+    if is_file(kind) { FILE_NAME } else { DIRECTORY_NAME }
 }
 
 // The fewest slots that continue a name of n bytes and its zero. n is taken apart so that no sum wraps, however large it is.
-pub fn continuing(kind: u8, n: u64) -> u64
-    ensures { λ r. ⌜ r ≡ continuing kind n ⌝ }
+fn continuing(kind: u8, n: u64) -> u64
+    ensures { λ r. ⌜ (r ≡ continuing kind n) × (r ≤ n / 64 + 1) ⌝ }
 {
-    n / 64 + (n % 64 + name_at(kind)) / 64
+    n / units::SLOT_BYTES + (n % units::SLOT_BYTES + name_at(kind)) / units::SLOT_BYTES
+}
+
+// The fewest slots of a run whose name has n bytes.
+pub fn run_slots(kind: u8, n: u64) -> u64
+    ensures { λ r. ⌜ r ≡ 1 + continuing kind n ⌝ }
+{
+    1 + continuing(kind, n)
+}
+
+// The name of the run at `at`: its field and the slots that continue it, in one piece.
+pub fn name_field(img: &[u8], at: Offset) -> &[u8]
+    requires { ⌜ at .0 + 64 * runSlots (drop (at .0) (now img)) ≤ length (now img) ⌝ }
+    ensures { λ r. ⌜ now r ≡ nameField (drop (at .0) (now (img .entry))) ⌝ }
+{
+    let name = at.after(name_at(kind_at(img, at)));
+    let rest = at.after_slots(slots_at(img, at));
+    let start = name.index();
+    let end = rest.index();
+    &img[start..end]
+}
+
+// A name's field and continuing slots: there is a zero, and what stands before it is a path.
+pub fn name_good(field: &[u8]) -> bool
+    ensures { λ r. ⌜ r ≡ nameGood (now (field .entry)) ⌝ }
+{
+    let n = fields::zero_at(field);
+    if n == field.len() {
+        return false;
+    }
+    names::path_good(&field[..n])
+}
+
+// ---- an entry
+
+// A field of a file at `at`; a directory has 0.
+fn file_field(img: &[u8], at: Offset, o: u64) -> u64
+    requires { ⌜ (at .0 + 64 ≤ length (now img)) × (o + 8 ≤ 64) ⌝ }
+    ensures { λ r. ⌜ r ≡ fileField (drop (at .0) (now (img .entry))) o ⌝ }
+{
+    if is_file(kind_at(img, at)) {
+        return fields::le64_at(img, at.after(o));
+    }
+    0
+}
+
+fn run_head(img: &[u8], at: Offset, slot: Slot) -> Head
+    requires { ⌜ (at .0 + 64 ≤ length (now img)) × (runType (getD (now img) (at .0) 0) ≡ true) ⌝ }
+    ensures { λ r. ⌜ headView (now (img .entry)) r ≡ entryAt (slot .0) (drop (at .0) (now (img .entry))) ⌝ }
+    ensures place { λ r. ⌜ (r .at .0 ≡ at .0) × (r .slots ≤ 256) ⌝ }
+{
+    Head {
+        at,
+        kind: kind_at(img, at),
+        slot,
+        slots: slots_at(img, at),
+        stamp: fields::le64_at(img, at.after(STAMP)),
+        start: Block::at(file_field(img, at, START)),
+        end: Block::at(file_field(img, at, END)),
+        length: file_field(img, at, LENGTH),
+    }
+}
+
+// The numbers of the entry whose first slot is at `at`; an unusable entry has a region only.
+pub fn head_at(img: &[u8], at: Offset, slot: Slot) -> Head
+    requires { ⌜ at .0 + 64 ≤ length (now img) ⌝ }
+    ensures { λ r. ⌜ headView (now (img .entry)) r ≡ headOf (slot .0) (drop (at .0) (now (img .entry))) ⌝ }
+    ensures place { λ r. ⌜ (r .at .0 ≡ at .0) × (r .slots ≤ 256) ⌝ }
+{
+    if is_run(kind_at(img, at)) {
+        return run_head(img, at, slot);
+    }
+    Head {
+        at,
+        kind: UNUSABLE,
+        slot,
+        slots: 1,
+        stamp: 0,
+        start: Block::at(fields::le64_at(img, at.after(START))),
+        end: Block::at(fields::le64_at(img, at.after(END))),
+        length: 0,
+    }
+}
+
+// The path of a run, as a part of the image.
+pub fn path_of(img: &[u8], h: Head) -> &[u8]
+    requires { ⌜ HeadIn (now img) h × (runType (h .kind) ≡ true) ⌝ }
+    ensures { λ r. ⌜ now r ≡ headView (now (img .entry)) h .path ⌝ }
+{
+    let field = name_field(img, h.at);
+    let n = fields::zero_at(field);
+    &field[..n]
 }

@@ -137,7 +137,7 @@ impl Slot {
         requires { ⌜ index .0 + 64 * self .0 ≤ 16_777_216 ⌝ }
         ensures { λ r. ⌜ (r .0 ≡ index .0 + 64 * self .0) × (r .0 ≤ 16_777_216) ⌝ }
     {
-        Offset(index.0 + (64 * self.0) as usize)
+        Offset(index.0 + (SLOT_BYTES * self.0) as usize)
     }
 
     // The slot so many slots further.
@@ -166,10 +166,18 @@ impl Offset {
 
     // The place so many bytes further.
     pub fn after(self, bytes: u64) -> Offset
-        requires { ⌜ self .0 + bytes ≤ 16_777_216 ⌝ }
+        requires { ⌜ self .0 + bytes < 2 ^ 64 ⌝ }
         ensures { λ r. ⌜ r .0 ≡ self .0 + bytes ⌝ }
     {
         Offset(self.0 + bytes as usize)
+    }
+
+    // The place so many slots further.
+    pub fn after_slots(self, slots: u64) -> Offset
+        requires { ⌜ self .0 + 64 * slots < 2 ^ 64 ⌝ }
+        ensures { λ r. ⌜ r .0 ≡ self .0 + 64 * slots ⌝ }
+    {
+        Offset(self.0 + (SLOT_BYTES * slots) as usize)
     }
 
     // The block that the place lies in.
@@ -193,5 +201,5 @@ pub fn index_start(image: u64, index: u64) -> Offset
 pub fn slots_in(index: u64) -> u64
     ensures { λ r. ⌜ r ≡ index / 64 ⌝ }
 {
-    index / 64
+    index / SLOT_BYTES
 }

@@ -2,6 +2,7 @@ use Prim.Native.Nat.{ℕ, _+_, _-_, _*_, _^_, _≤_, _<_}
 use mathlib.Core.Path.{_≡_, refl, sym, ap, _∙_}
 use native.Mathlib.Omega.{arith}
 use lib.ListN.{length, getD, length-set}
+use denote.Ref.{now}
 use Rattle.rules.specs.Fields.{splice, leBytes}
 use Rattle.rules.specs.Fields.Laws.{put-up, splice-nil, leBytes-zero}
 use borrow.Author.Needs.{needs}
@@ -9,10 +10,13 @@ use Rattle.fields.proofs.put_le.Statement.{statement}
 use Rattle.fields.proofs.put_le.Tie as tie
 
 abbrev Inv-loop : tie.InvT-loop
-Inv-loop s₀ at w v o₀ n₀ x₀ s o n x = (o + n ≡ at + w) × (length s ≡ length s₀) × (splice s o (leBytes n x) ≡ splice s₀ at (leBytes w v))
+Inv-loop s₀ w v o₀ n₀ x₀ s o n x = (o + n ≡ o₀ + w) × (length s ≡ length s₀) × (splice s o (leBytes n x) ≡ splice s₀ o₀ (leBytes w v))
 
 abbrev μ-loop : tie.MeasureT-loop
-μ-loop s₀ at w v o₀ n₀ x₀ s o n x = n
+μ-loop s₀ w v o₀ n₀ x₀ s o n x = n
+
+index-requires : tie.Need-index-requires Inv-loop μ-loop
+index-requires c κs = search needs
 
 loop-holds : tie.Need-loop-holds Inv-loop μ-loop
 loop-holds c = search needs
@@ -39,10 +43,9 @@ same-length : tie.Need-same-length Inv-loop μ-loop
 same-length c = search needs
 
 returns : tie.Need-returns Inv-loop μ-loop
-returns c =
-    let l = c .before .loop in
+returns c =     let l = c .before .loop in
     let z : l .n ≡ 0 = omega arith in
-    sym (splice-nil (l .s) (l .o)) ∙ (rw (z, leBytes-zero) at (l .inv .2))
+    sym (splice-nil (l .s) (l .o)) ∙ (rw (z, leBytes-zero, c .before .before .index .ensures) at (l .inv .2))
 
 pub put-le-spec : {M : Type 1} → statement M
 put-le-spec =
@@ -50,6 +53,7 @@ put-le-spec =
     (tie.spec
     Inv-loop
     μ-loop
+    index-requires
     loop-holds
     cast-s
     slice-write-s

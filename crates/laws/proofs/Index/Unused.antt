@@ -16,6 +16,7 @@ use Rattle.laws.proofs.Index.ListFacts.{some-same, none-some}
 use Rattle.laws.proofs.Index.Items.{slotsIn, slotsIn-nil, slotsIn-cons, noFault}
 use Rattle.laws.proofs.Index.Walks.{walk-append, walk-first, walk-rest, walk-split}
 use Rattle.laws.proofs.Index.Places.{before-sound, item-slot, slot-there}
+pub use Rattle.rules.specs.Index.Laws.{length-unusedBytes}
 
 -- the m unused slots k, k + 1, …
 unfoldable pub unusedFrom : ℕ → ℕ → List Item
@@ -38,12 +39,6 @@ unusedFrom-entries k zero = refl
 unusedFrom-entries k (suc m) = unusedFrom-entries (k + 1) m
 
 -- ---- as they are stored
-pub length-unusedBytes : (m : ℕ) → length (unusedBytes m) ≡ slotBytes * m
-unfolding unusedBytes
-length-unusedBytes zero = refl
-length-unusedBytes (suc m) =
-    length-append (padded (typeUnused ∷ []) slotBytes) (unusedBytes m) ∙ omega (arith, length-padded (typeUnused ∷ []) slotBytes (omega arith), length-unusedBytes m)
-
 walk-one-unused : (k : ℕ) → walkAll 1 k (padded (typeUnused ∷ []) slotBytes) ≡ unused k ∷ []
 unfolding walkAll walk itemAt followed pick padded byteAt runType directoryType fileType strayType
 walk-one-unused k = refl

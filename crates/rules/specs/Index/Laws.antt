@@ -1,10 +1,13 @@
 -- Laws of the index area: where a name starts, and how many slots continue it.
-use Prim.Native.Nat.{ℕ, _+_, _-_, _*_, _/_, _%_, _≤_, _<_}
-use mathlib.Core.Path.{_≡_, refl}
+use Prim.Native.Nat.{ℕ, zero, suc, _+_, _-_, _*_, _/_, _%_, _≤_, _<_}
+use mathlib.Core.Path.{_≡_, refl, _∙_}
 use mathlib.Core.Bool.{Bool, true, false}
+use mathlib.Core.List.{List, [], _∷_}
 use native.Mathlib.Omega.{arith}
-use Rattle.rules.specs.Lists.{pick}
-use Rattle.rules.specs.Index.{fileType, nameAt, continuing}
+use lib.ListN.{length, length-append}
+use Rattle.rules.specs.Lists.{pick, padded}
+use Rattle.rules.specs.Lists.Laws.{length-padded}
+use Rattle.rules.specs.Index.{fileType, nameAt, continuing, slotBytes, typeUnused, unusedBytes}
 
 -- ---- where a name starts
 pub name-at-file : (t : ℕ) → fileType t ≡ true → nameAt t ≡ 34
@@ -52,3 +55,10 @@ module _ (t n : ℕ) where
   pub continuing-new : n ≤ 285 → continuing t n ≤ 4
   unfolding continuing
   continuing-new h = omega (arith, name-at-bounds t)
+
+-- ---- unused slots
+pub length-unusedBytes : (m : ℕ) → length (unusedBytes m) ≡ slotBytes * m
+unfolding unusedBytes
+length-unusedBytes zero = refl
+length-unusedBytes (suc m) =
+    length-append (padded (typeUnused ∷ []) slotBytes) (unusedBytes m) ∙ omega (arith, length-padded (typeUnused ∷ []) slotBytes (omega arith), length-unusedBytes m)
