@@ -1,15 +1,15 @@
 // Free runs, blocks held, and the blocks that a file needs.
 
 use index::Cursor;
-use index::Head;
 use index::Next;
+use slots::Head;
 use units::Block;
 ghost use mathlib.Core.Path.{_≡_};
 ghost use mathlib.Core.List.{List};
 ghost use Prim.Native.Nat.{ℕ, _+_, _^_, _<_};
 ghost use Rattle.rules.specs.Regions.{heldBlocks, lowestFree, blocksNeeded};
 ghost use Rattle.rules.specs.Writing.{undeleted, leastEnd};
-ghost use Rattle.index.specs.View.{headView};
+ghost use Rattle.slots.specs.View.{headView};
 ghost use Rattle.index.specs.Steps.{Walks, entriesFrom};
 ghost use Rattle.free_runs.specs.View.{freeView};
 ghost use Rattle.free_runs.specs.Runs.{meets, blockedTo};

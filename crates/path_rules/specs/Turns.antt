@@ -12,8 +12,8 @@ use Rattle.rules.specs.Index.{Entry, liveType}
 use Rattle.rules.specs.Paths.{isLive, lookup, directoryLive, directoriesLive, pathsDiffer}
 use Rattle.rules.specs.Paths.Laws.{differ-dead, differ-live}
 use Rattle.rules.specs.Writing.{nearestLive}
-use Rattle.index.specs.declared.Head.{Head}
-use Rattle.index.specs.View.{headView}
+use Rattle.slots.specs.declared.Head.{Head}
+use Rattle.slots.specs.View.{headView}
 
 -- an entry's own rule: where it is live, its directories are
 unfoldable pub placed : List Entry → Entry → Bool

@@ -6,16 +6,14 @@ use index::next_entry;
 use slots::Head;
 use units::Slot;
 ghost use mathlib.Core.Path.{_≡_};
-ghost use mathlib.Core.Bool.{true, _&&_};
-ghost use Prim.Native.Nat.{_+_, _≤_};
-ghost use lib.ListN.{length};
+ghost use mathlib.Core.Bool.{_&&_};
 ghost use lib.Dec.{leb};
-ghost use Rattle.rules.specs.Lists.{eqList, first, part};
+ghost use Rattle.rules.specs.Lists.{eqList, first};
 ghost use Rattle.rules.specs.Names.{isBelow};
-ghost use Rattle.rules.specs.Index.{liveType, runType};
+ghost use Rattle.rules.specs.Index.{liveType};
 ghost use Rattle.rules.specs.Paths.{liveAt, isDirectoryAt, lookup, nextLive, directoryLive, anyBelow};
-ghost use Rattle.index.specs.View.{headView};
-ghost use Rattle.index.specs.Steps.{Walks, HeadIn, entriesFrom};
+ghost use Rattle.slots.specs.View.{headView, HeadIn};
+ghost use Rattle.index.specs.Steps.{Walks, entriesFrom};
 ghost use Rattle.paths.specs.View.{Searched, isFound, liveBelow, passes};
 
 pub enum Search {

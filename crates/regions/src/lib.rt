@@ -2,8 +2,8 @@
 
 use geometry::Geometry;
 use index::Cursor;
-use index::Head;
 use index::Next;
+use slots::Head;
 ghost use mathlib.Core.Path.{_≡_};
 ghost use mathlib.Core.Bool.{_&&_};
 ghost use mathlib.Core.List.{List};
@@ -12,7 +12,7 @@ ghost use Prim.Native.Nat.{ℕ};
 ghost use Rattle.rules.specs.Lists.{all, everyTwo};
 ghost use Rattle.rules.specs.Regions.{withinData, fileRegionGood, regionGood, apart, regionsSound};
 ghost use Rattle.geometry.specs.View.{geometryView};
-ghost use Rattle.index.specs.View.{headView};
+ghost use Rattle.slots.specs.View.{headView};
 ghost use Rattle.index.specs.Steps.{Walks, entriesFrom};
 ghost use Rattle.regions.specs.Bounds.{Bounded};
 

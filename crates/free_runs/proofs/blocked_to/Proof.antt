@@ -1,7 +1,7 @@
 -- The entries from the cursor on answer as all of them do.
 use mathlib.Core.Path.{_≡_, refl, sym, _∙_}
 use denote.Ref.{now}
-use Rattle.index.specs.View.{headView}
+use Rattle.slots.specs.View.{headView}
 use Rattle.index.specs.Steps.{Walks, Step, entriesFrom}
 use Rattle.index.specs.Turns.{told-end, told-found}
 use Rattle.free_runs.specs.Runs.{blockedTo, blocked-end, blocked-here, blocked-next}

@@ -2,7 +2,7 @@ use mathlib.Core.Path.{sym, _∙_}
 use borrow.Author.Tests.{not-true, not-false}
 use Rattle.rules.specs.Lists.{pick}
 use Rattle.rules.specs.Regions.{blocksOf}
-use Rattle.index.specs.View.{headView}
+use Rattle.slots.specs.View.{headView}
 use Rattle.free_runs.specs.Sums.{fileBlocks}
 use borrow.Author.Needs.{needs}
 use Rattle.free_runs.proofs.file_blocks.Statement.{statement}

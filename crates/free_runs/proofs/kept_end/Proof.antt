@@ -1,7 +1,7 @@
 use mathlib.Core.Path.{refl, sym, _∙_}
 use Rattle.rules.specs.Lists.{pick}
 use Rattle.rules.specs.Writing.{isDeleted}
-use Rattle.index.specs.View.{headView}
+use Rattle.slots.specs.View.{headView}
 use Rattle.free_runs.specs.Sums.{keptEnd}
 use borrow.Author.Needs.{needs}
 use Rattle.free_runs.proofs.kept_end.Statement.{statement}

@@ -1,6 +1,6 @@
 use mathlib.Core.Path.{sym, _∙_}
 use borrow.Author.Tests.{not-true, not-false}
-use Rattle.index.specs.View.{headView}
+use Rattle.slots.specs.View.{headView}
 use Rattle.free_runs.specs.Runs.{meets}
 use borrow.Author.Needs.{needs}
 use Rattle.free_runs.proofs.reaches.Statement.{statement}

@@ -5,7 +5,7 @@ use borrow.Author.Needs.{needs}
 use denote.Ref.{now}
 use Rattle.rules.specs.Lists.{all}
 use Rattle.rules.specs.Regions.{apart}
-use Rattle.index.specs.View.{headView}
+use Rattle.slots.specs.View.{headView}
 use Rattle.index.specs.Steps.{Walks, Step, entriesFrom}
 use Rattle.index.specs.Turns.{told-end, told-found, all-end, all-stop, all-next}
 use Rattle.regions.proofs.apart_from_rest.Statement.{statement}

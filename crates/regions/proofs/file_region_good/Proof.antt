@@ -8,7 +8,7 @@ use borrow.Author.Tests.{not-true, not-false}
 use Rattle.rules.specs.SuperBlock.{dataEnd}
 use Rattle.rules.specs.Regions.{fileRegionGood, withinData, blocksOf}
 use Rattle.geometry.specs.View.{geometryView}
-use Rattle.index.specs.View.{headView}
+use Rattle.slots.specs.View.{headView}
 use Rattle.regions.specs.Bounds.{within-true, region-bytes}
 use borrow.Author.Needs.{needs}
 use Rattle.regions.proofs.file_region_good.Statement.{statement}

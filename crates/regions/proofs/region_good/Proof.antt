@@ -4,7 +4,7 @@ use borrow.Author.Tests.{eq-eqb, ne-eqb}
 use Rattle.rules.specs.Lists.{pick}
 use Rattle.rules.specs.Index.{fileType}
 use Rattle.rules.specs.Regions.{regionGood}
-use Rattle.index.specs.View.{headView}
+use Rattle.slots.specs.View.{headView}
 use borrow.Author.Needs.{needs}
 use Rattle.regions.proofs.region_good.Statement.{statement}
 use Rattle.regions.proofs.region_good.Tie as tie

@@ -1,6 +1,6 @@
 use mathlib.Core.Path.{sym, _∙_}
 use Rattle.rules.specs.Regions.{apart}
-use Rattle.index.specs.View.{headView}
+use Rattle.slots.specs.View.{headView}
 use borrow.Author.Needs.{needs}
 use Rattle.regions.proofs.regions_apart.Statement.{statement}
 use Rattle.regions.proofs.regions_apart.Tie as tie

@@ -3,7 +3,7 @@ use mathlib.Core.Bool.{true}
 use lib.Dec.{leb}
 use borrow.Author.Tests.{not-true, not-false}
 use Rattle.rules.specs.Regions.{withinData}
-use Rattle.index.specs.View.{headView}
+use Rattle.slots.specs.View.{headView}
 use borrow.Author.Needs.{needs}
 use Rattle.regions.proofs.within_data.Statement.{statement}
 use Rattle.regions.proofs.within_data.Tie as tie
