@@ -5,7 +5,7 @@ use mathlib.Core.Bool.{Bool, true, false}
 use mathlib.Core.List.{List, [], _∷_}
 use Rattle.rules.specs.Lists.{all, everyTwo}
 use Rattle.index.specs.declared.Cursor.{Cursor}
-use Rattle.index.specs.declared.Head.{Head}
+use Rattle.slots.specs.declared.Head.{Head}
 use Rattle.index.specs.declared.Next.{Next}
 use Rattle.index.specs.declared.Next.the-variants.{End, Found}
 use Rattle.index.specs.Steps.{entriesFrom, Told, Step}
