@@ -26,7 +26,9 @@ walks c =
 
 regions-are : (c : tie.After-regions-sound) → let a = c .before .before .before .before .before .args in let g = geometryView (a .g) in
     c .regions-sound .result ≡ regionsSound g (entriesOf (itemsOf (now (a .img)) g))
-regions-are c = c .regions-sound .ensures ∙ ap (λ is. regionsSound _ (entriesOf is)) (c .before .first-slot .ensures .0)
+regions-are c =
+    let g = geometryView (c .before .before .before .before .before .args .g) in
+    c .regions-sound .ensures ∙ ap (λ is. regionsSound g (entriesOf is)) (c .before .first-slot .ensures .0)
 
 paths-are : (c : tie.After-paths-sound) → let a = c .before .before .before .before .before .before .before .args in
     c .paths-sound .result ≡ pathsSound (entriesOf (itemsOf (now (a .img)) (geometryView (a .g))))
