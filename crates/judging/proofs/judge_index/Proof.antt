@@ -45,7 +45,8 @@ first-slot-requires : tie.Need-first-slot-requires
 first-slot-requires c κs = search needs
 
 regions-sound-requires : tie.Need-regions-sound-requires
-regions-sound-requires c κs = (good-bounded _ _ (c .before .before .before .before .pre .good) (c .before .before .before .before .pre .short), walks c)
+regions-sound-requires c κs = let p = c .before .before .before .before .pre in
+    (good-bounded _ _ (p .good) (p .short), walks c)
 
 returns-2 : tie.Need-returns-2
 unfolding judgedView

@@ -38,7 +38,8 @@ returns-3 c =
     let l = c .before .before .before in
     rw (field-good (l .before), ← l .block-length .ensures .0, sym (c .before .is-product .ensures) ∙ not-true _ (c .if3 .taken))
 
-total-good : (c : tie.Else3) → let a = c .before .before .before .before .before .before .before .before .args in
+total-good : (c : tie.Else3) → let l = c .before .before .before in
+    let a = l .before .before .before .before .before .args in
     (leb 1 (a .self .field) && leb (a .self .field) 5 && eqb (a .self .total * blockLength (geometryView (a .self))) (a .n)) ≡ true
 total-good c =
     let l = c .before .before .before in
