@@ -11,12 +11,12 @@ use Rattle.rules.specs.SuperBlock.Laws.{GoodGeometry}
 use Rattle.rules.specs.Index.{Entry, Item, entry, itemsOf, entriesOf, isFault, slotAt, slotBytes, runBytes}
 use Rattle.laws.proofs.Lists.Parts.{map-map}
 use Rattle.laws.proofs.Lists.Perms.{perm-back, perm-of, perm-map, perm-insert}
-use Rattle.laws.proofs.Index.Items.{noFault, noFault-swap}
+use Rattle.laws.proofs.Index.Items.{noFault, noFault-swap, one-sound}
+use Rattle.laws.proofs.Index.Entries.{retypedEntry}
 use Rattle.laws.proofs.Index.Places.{entriesOf-append}
 use Rattle.laws.proofs.Index.Unused.{unusedFrom, unusedFrom-entries, UnusedRun}
 use Rattle.laws.proofs.Index.Shift.{shiftItem, shiftEntry, entriesOf-shift, noFault-shift}
 use Rattle.laws.proofs.Index.Runs.{Storable, stored}
-use Rattle.laws.proofs.Index.Writes.{one-sound}
 use Rattle.laws.proofs.Images.Inner.{Inner}
 use Rattle.laws.proofs.Images.Indexes.{run-inner, run-items, grown-inner, grown-items}
 
@@ -44,7 +44,7 @@ unfolding entriesOf
 entriesOf-entry e is = refl
 
 core-stored : (e : Entry) → core (stored e) ≡ core e
-unfolding core stored
+unfolding core stored retypedEntry
 core-stored e = refl
 
 -- ---- in the place of unused slots

@@ -17,7 +17,7 @@ use Rattle.rules.specs.History.{marked}
 use Rattle.after.specs.After.{isNamed, seen}
 use Rattle.laws.proofs.Lists.Parts.{map-map, only-map, only-ext}
 use Rattle.laws.proofs.Lists.Every.{map-ext, all-weaken, all-and, all-only}
-use Rattle.laws.proofs.Index.Retyped.{retypedEntry}
+use Rattle.laws.proofs.Index.Entries.{retypedEntry}
 use Rattle.laws.proofs.Entries.EntryKinds.{deleted-file, deleted-run, live-run, deleted-gone}
 use Rattle.laws.proofs.Entries.Regions.{sound-says}
 use Rattle.laws.proofs.Entries.Paths.{liveAt-says}

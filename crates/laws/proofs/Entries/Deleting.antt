@@ -11,7 +11,7 @@ use Rattle.rules.specs.Index.{Entry}
 use Rattle.rules.specs.Regions.{regionsSound}
 use Rattle.rules.specs.Paths.{isLive, liveAt, pathsSound, anyBelow}
 use Rattle.rules.specs.Writing.{deletedKind}
-use Rattle.laws.proofs.Index.Retyped.{retypedEntry}
+use Rattle.laws.proofs.Index.Entries.{retypedEntry}
 use Rattle.laws.proofs.Entries.EntryKinds.{deleted-gone}
 use Rattle.laws.proofs.Entries.Regions.{SameRegion, same-region, deleted-region, sound-map}
 use Rattle.laws.proofs.Entries.Paths.{Deletes, paths-delete, map-live, liveAt-says, liveAt-holds}

@@ -13,15 +13,16 @@ use Rattle.rules.specs.Index.{Entry, Item, entry, itemsOf, innerSlots, slotAt, 
 use Rattle.rules.specs.Index.Walk.{walkAll}
 use Rattle.rules.specs.Writing.{itemSlot}
 use Rattle.laws.proofs.Lists.Spans.{drop-splice, drop-splice-part}
-use Rattle.laws.proofs.Index.Items.{slotsIn, slotsIn-append, noFault}
+use Rattle.laws.proofs.Index.Items.{slotsIn, slotsIn-append, noFault, one-sound, one-slots}
 use Rattle.laws.proofs.Index.Walks.{slots-all, walk-replace}
 use Rattle.laws.proofs.Index.Slots.{slot-at, slot-same, identifier-at, inner-slots, items-walk}
 use Rattle.laws.proofs.Index.Places.{slot-there, place-within}
 use Rattle.laws.proofs.Index.Unused.{unusedFrom, unusedFrom-slots, unusedFrom-sound, walk-unusedBytes, length-unusedBytes}
 use Rattle.laws.proofs.Index.Shift.{shiftItem}
 use Rattle.laws.proofs.Index.Runs.{Storable, stored, length-runBytes, walk-runBytes}
-use Rattle.laws.proofs.Index.Retyped.{retypedEntry, retyped-part}
-use Rattle.laws.proofs.Index.Writes.{one-sound, one-slots, walk-retyped, walk-grown}
+use Rattle.laws.proofs.Index.Entries.{retypedEntry}
+use Rattle.laws.proofs.Index.Retyped.{retyped-part}
+use Rattle.laws.proofs.Index.Writes.{walk-retyped, walk-grown}
 use Rattle.laws.proofs.Images.Areas.{slot-on, inner-end}
 use Rattle.laws.proofs.Images.Inner.{Inner, inner-retyped, inner-splice}
 

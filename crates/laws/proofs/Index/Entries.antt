@@ -6,6 +6,7 @@ use mathlib.Core.List.{List, []}
 use mathlib.Core.Logic.{_⊎_, inl, inr}
 use native.Mathlib.Omega.{arith}
 use lib.ListN.{length, getD, drop, length-take, length-drop}
+use lib.IntN.{ℤ}
 use lib.Signed.{mag}
 use Rattle.rules.specs.Lists.{All}
 use Rattle.rules.specs.Lists.Laws.{clash, pick-false, and-true}
@@ -17,6 +18,19 @@ use Rattle.rules.specs.Names.{pathGood}
 use Rattle.rules.specs.Index.{Entry, Item, unused, entry, fault, itemAt, entryAt, unusableAt, runSlots, nameGood, nameField, runType, fileType, directoryType, fileField, typeUnusable, countAt, stampAt, endAt, lengthAt, slotBytes, followed, walk, itemsOf, entriesOf, walkAll}
 use Rattle.rules.specs.Index.Walk.{pick-both}
 use Rattle.laws.proofs.Index.Items.{item-by}
+
+-- the entry of another type and stamp
+unfoldable pub retypedEntry : ℕ → ℤ → Entry → Entry
+retypedEntry kind stamp e = record {
+  kind = kind;
+  slot = e .slot;
+  slots = e .slots;
+  stamp = stamp;
+  start = e .start;
+  end = e .end;
+  length = e .length;
+  path = e .path;
+}
 
 -- ---- one item is not another
 entry-same : (e f : Entry) → entry e ≡ entry f → e ≡ f

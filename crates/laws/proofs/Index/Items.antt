@@ -9,7 +9,7 @@ use borrow.Author.Tests.{leb-true, eqb-true, eqb-false, not-true}
 use Rattle.rules.specs.Lists.{all, sum}
 use Rattle.rules.specs.Lists.Laws.{clash, and-true, all-append}
 use Rattle.rules.specs.Fields.{byteAt}
-use Rattle.rules.specs.Index.{Item, unused, entry, fault, itemAt, runAt, entryAt, unusableAt, isFault, followed, runSlots, nameGood, nameField, runType, strayType, typeUnusable}
+use Rattle.rules.specs.Index.{Entry, Item, unused, entry, fault, itemAt, runAt, entryAt, unusableAt, isFault, followed, runSlots, nameGood, nameField, runType, strayType, typeUnusable}
 use Rattle.rules.specs.Index.Walk.{slotsOf}
 use Rattle.rules.specs.Index.Items.{item-run, item-unusable, item-unused}
 use Rattle.laws.proofs.Lists.Parts.{sum-append, all-parts}
@@ -84,6 +84,15 @@ noFault-swap pre mid mid′ post s n =
     let h₁ = all-parts (λ i. not (isFault i)) pre (mid ++ post) s in
     let h₂ = all-parts (λ i. not (isFault i)) mid post (h₁ .1) in
     all-append (λ i. not (isFault i)) pre (mid′ ++ post) ∙ rw (h₁ .0) (all-append (λ i. not (isFault i)) mid′ post ∙ rw (n, h₂ .1))
+
+-- an entry alone
+pub one-sound : (e : Entry) → noFault (entry e ∷ [])
+unfolding all isFault
+one-sound e = refl
+
+pub one-slots : (e : Entry) → slotsIn (entry e ∷ []) ≡ e .slots
+unfolding slotsOf
+one-slots e = slotsIn-cons (entry e) [] ∙ omega (arith, slotsIn-nil)
 
 -- an item that is no fault is followed by what comes after its slots
 pub followed-on : (i : Item) (r : ℕ → List Item) → isFault i ≡ false → followed i r ≡ i ∷ r (slotsOf i)

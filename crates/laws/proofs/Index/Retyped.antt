@@ -15,21 +15,8 @@ use Rattle.rules.specs.Index.{Entry, entry, itemAt, entryAt, runSlots, nameFiel
 use Rattle.rules.specs.Index.Laws.{name-at-bounds}
 use Rattle.rules.specs.Index.Items.{item-run}
 use Rattle.laws.proofs.Lists.Spans.{SameBut, but-splice, but-wider, but-then, but-drop, drop-splice-part}
-use Rattle.laws.proofs.Index.Entries.{entry-run, run-kind}
+use Rattle.laws.proofs.Index.Entries.{retypedEntry, entry-run, run-kind}
 use Rattle.laws.proofs.Index.Runs.{length-stamp}
-
--- the entry of another type and stamp
-unfoldable pub retypedEntry : ℕ → ℤ → Entry → Entry
-retypedEntry kind stamp e = record {
-  kind = kind;
-  slot = e .slot;
-  slots = e .slots;
-  stamp = stamp;
-  start = e .start;
-  end = e .end;
-  length = e .length;
-  path = e .path;
-}
 
 -- ---- the write: ten bytes from the slot's start
 module _ (s : List ℕ) (at kind : ℕ) (stamp : ℤ) (room : at + 10 ≤ length s) where

@@ -12,11 +12,13 @@ use Rattle.rules.specs.Lists.{pick, padded}
 use Rattle.rules.specs.Lists.Laws.{pick-true, pick-false, and-both, or-right, length-padded}
 use Rattle.rules.specs.Fields.{byteAt, le, leBytes, stampIn, stampBytes, upToZero, hasZero}
 use Rattle.rules.specs.Fields.Laws.{length-leBytes, le-append-before, le-append-after, le-between}
+use Rattle.rules.specs.SuperBlock.Laws.{storedStamp}
 use Rattle.rules.specs.Names.{pathGood}
 use Rattle.rules.specs.Names.Laws.{path-up-to-zero}
 use Rattle.rules.specs.Index.{Entry, entry, itemAt, entryAt, runSlots, nameField, nameAt, nameGood, fileField, runType, fileType, runBytes, continuing, slotBytes, stampAt, startAt, endAt, lengthAt}
 use Rattle.rules.specs.Index.Walk.{walkAll, walk-none, walk-entry}
 use Rattle.rules.specs.Index.Items.{item-run}
+use Rattle.laws.proofs.Index.Entries.{retypedEntry}
 
 -- ---- names
 pub zero-behind : (p zs : List ℕ) → hasZero (p ++ (0 ∷ zs)) ≡ true
@@ -41,16 +43,7 @@ pub record Storable (e : Entry) : Type 0 where
 
 -- what is read back: a stamp of more than 64 bits keeps the lowest
 unfoldable pub stored : Entry → Entry
-stored e = record {
-  kind = e .kind;
-  slot = e .slot;
-  slots = e .slots;
-  stamp = stampIn (stampBytes (e .stamp)) 0;
-  start = e .start;
-  end = e .end;
-  length = e .length;
-  path = e .path;
-}
+stored e = retypedEntry (e .kind) (storedStamp (e .stamp)) e
 
 pub length-stamp : (z : ℤ) → length (stampBytes z) ≡ 8
 unfolding stampBytes
@@ -173,7 +166,7 @@ module _ (e : Entry) where
     path-back = rw (name-back, tail-zero) (path-up-to-zero (e .path) (h .good) (replicate (padding - 1) 0))
 
     entry-back : entryAt (e .slot) (runBytes e) ≡ stored e
-    unfolding entryAt stored
+    unfolding entryAt stored retypedEntry storedStamp
     entry-back =
         let f = fields-back (fileType (e .kind)) refl in
         rw (type-back, slots-back, stamp-back, f .0, f .1, f .2, path-back)
@@ -185,7 +178,7 @@ module _ (e : Entry) where
         ∙ ap entry entry-back
 
     pub walk-runBytes : walkAll (e .slots) (e .slot) (runBytes e) ≡ entry (stored e) ∷ []
-    unfolding stored
+    unfolding stored retypedEntry
     walk-runBytes =
         let z : e .slots - e .slots ≡ 0 = omega arith in
         walk-entry (e .slots) (e .slot) (runBytes e) (omega (arith, h .fewest)) (stored e) (item-runBytes (e .slots) (omega arith)) ∙ rw (z, walk-none)

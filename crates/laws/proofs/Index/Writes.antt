@@ -2,31 +2,22 @@
 use Prim.Native.Nat.{ℕ, _+_, _-_, _*_, _≤_, _<_}
 use mathlib.Core.Path.{_≡_, refl, ap, _∙_}
 use mathlib.Core.Bool.{true}
-use mathlib.Core.List.{List, [], _∷_, _++_, map}
+use mathlib.Core.List.{List, _∷_, _++_, map}
 use native.Mathlib.Omega.{arith}
 use native.Mathlib.Nat.{add-zero}
 use lib.ListN.{length, drop, length-drop}
 use lib.IntN.{ℤ}
-use Rattle.rules.specs.Lists.{all}
 use Rattle.rules.specs.SuperBlock.Laws.{storedStamp}
 use Rattle.rules.specs.Index.{Entry, Item, entry, itemAt, isFault, runType, fileType, runBytes, slotBytes, retyped}
 use Rattle.rules.specs.Index.Walk.{walkAll, slotsOf, slots-pos}
 use Rattle.laws.proofs.Lists.Spans.{but-drop}
-use Rattle.laws.proofs.Index.Items.{slotsIn, slotsIn-nil, slotsIn-cons, noFault}
+use Rattle.laws.proofs.Index.Items.{slotsIn, noFault, one-sound}
 use Rattle.laws.proofs.Index.Walks.{Split, walk-on, walk-rest, walk-kept, walk-append, walk-split}
 use Rattle.laws.proofs.Index.Places.{before-sound, item-there, place-within}
 use Rattle.laws.proofs.Index.Shift.{shiftItem, walk-shift}
 use Rattle.laws.proofs.Index.Runs.{Storable, stored, walk-runBytes, length-runBytes}
-use Rattle.laws.proofs.Index.Retyped.{retypedEntry, item-retyped, retyped-written, retyped-part}
-
--- an entry alone
-pub one-sound : (e : Entry) → noFault (entry e ∷ [])
-unfolding all isFault
-one-sound e = refl
-
-pub one-slots : (e : Entry) → slotsIn (entry e ∷ []) ≡ e .slots
-unfolding slotsOf
-one-slots e = slotsIn-cons (entry e) [] ∙ omega (arith, slotsIn-nil)
+use Rattle.laws.proofs.Index.Entries.{retypedEntry}
+use Rattle.laws.proofs.Index.Retyped.{item-retyped, retyped-written, retyped-part}
 
 -- ---- a run of another type and stamp
 pub walk-retyped : (left k : ℕ) (a : List ℕ) (e : Entry) (kind : ℕ) (stamp : ℤ) (pre post : List Item)
