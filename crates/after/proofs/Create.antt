@@ -1,9 +1,6 @@
--- What an accepted create leaves.
-pub mod Inverted
-pub mod Sizes
-pub mod Images
+-- What an accepted create leaves: the claim is `create-left`.
+pub mod Passed
 pub mod Added
 pub mod Made
-pub mod Walked
 pub mod Seen
-pub mod Create
+pub mod Left

@@ -1,3 +1,3 @@
 -- What an accepted delete leaves.
 pub mod Marking
-pub mod Deleted
+pub mod Left

@@ -1,4 +1,2 @@
 -- What an accepted format leaves: the claim is `format-left`.
-pub mod Answers
-pub mod Ends
-pub mod Format
+pub mod Left

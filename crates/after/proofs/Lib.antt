@@ -1,3 +1,4 @@
+pub mod Unusable
 pub mod Format
 pub mod Create
 pub mod Delete

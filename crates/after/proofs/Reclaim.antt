@@ -1,4 +1,3 @@
 -- What an accepted reclaim leaves.
-pub mod Clearing
 pub mod Keeping
-pub mod Reclaimed
+pub mod Left

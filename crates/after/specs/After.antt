@@ -4,9 +4,10 @@ use mathlib.Core.Path.{_≡_}
 use mathlib.Core.Bool.{Bool, true, false}
 use mathlib.Core.List.{List, [], _∷_, map}
 use lib.IntN.{ℤ}
+use lib.Dec.{eqb}
 use Rattle.rules.specs.Lists.{only, pick, Perm}
 use Rattle.rules.specs.SuperBlock.{Geometry, blockLength}
-use Rattle.rules.specs.Index.{Entry, runType, fileType, typeFile, typeDirectory}
+use Rattle.rules.specs.Index.{Entry, runType, fileType, typeFile, typeDirectory, typeUnusable}
 use Rattle.rules.specs.Regions.{blocksOf}
 use Rattle.rules.specs.Paths.{isLive}
 use Rattle.rules.specs.Refusals.{accepted, Volume, entries, judge}
@@ -32,36 +33,52 @@ seen s g e = record {
 unfoldable pub sight : List ℕ → Volume → List Kept
 sight s v = map (seen s (v .geometry)) (only isNamed (entries v))
 
--- the image t opens, its blocks are of `block` bytes, and what is seen of it is `told`, in some order
-pub record Left (t : List ℕ) (block : ℕ) (told : List Kept) : Type 0 where
+-- the blocks from start up to, not including, end
+pub record Extent : Type 0 where
+  pub start : ℕ
+  pub end : ℕ
+
+unfoldable pub extentOf : Entry → Extent
+extentOf e = record { start = e .start; end = e .end }
+
+unfoldable pub isUnusable : Entry → Bool
+isUnusable e = eqb (e .kind) typeUnusable
+
+-- the unusable regions of a volume
+unfoldable pub unusables : Volume → List Extent
+unusables v = map extentOf (only isUnusable (entries v))
+
+-- the image t opens, its blocks are of `block` bytes, what is seen of it is `told` and its unusable regions are `bad`, in some order
+pub record Left (t : List ℕ) (block : ℕ) (told : List Kept) (bad : List Extent) : Type 0 where
   pub volume : Volume
   pub opens : judge t ≡ accepted volume
   pub blocks : blockLength (volume .geometry) ≡ block
   pub agree : Perm (sight t volume) told
+  pub unusable : Perm (unusables volume) bad
 
 abbrev pub AfterFormat : Type 0
 AfterFormat =
     (s : List ℕ) (bytesPerBlock reserved : ℕ) (name : List ℕ) (stamp : ℤ)
     → formatOf s bytesPerBlock reserved name stamp .refusal ≡ 0
-    → Left (formatOf s bytesPerBlock reserved name stamp .image) bytesPerBlock []
+    → Left (formatOf s bytesPerBlock reserved name stamp .image) bytesPerBlock [] []
 
 abbrev pub AfterCreate : Type 0
 AfterCreate =
     (s : List ℕ) (v : Volume) (new : New) (path : List ℕ) (stamp : ℤ)
     → judge s ≡ accepted v
     → createOf s new path stamp .refusal ≡ 0
-    → Left (createOf s new path stamp .image) (blockLength (v .geometry)) (keptOf (blockLength (v .geometry)) new path ∷ sight s v)
+    → Left (createOf s new path stamp .image) (blockLength (v .geometry)) (keptOf (blockLength (v .geometry)) new path ∷ sight s v) (unusables v)
 
 abbrev pub AfterDelete : Type 0
 AfterDelete =
     (s : List ℕ) (v : Volume) (path : List ℕ) (stamp : ℤ)
     → judge s ≡ accepted v
     → deleteOf s path stamp .refusal ≡ 0
-    → Left (deleteOf s path stamp .image) (blockLength (v .geometry)) (map (marked path) (sight s v))
+    → Left (deleteOf s path stamp .image) (blockLength (v .geometry)) (map (marked path) (sight s v)) (unusables v)
 
 abbrev pub AfterReclaim : Type 0
 AfterReclaim =
     (s : List ℕ) (v : Volume) (stamp : ℤ)
     → judge s ≡ accepted v
     → reclaimOf s stamp .refusal ≡ 0
-    → Left (reclaimOf s stamp .image) (blockLength (v .geometry)) (only (λ k. k .live) (sight s v))
+    → Left (reclaimOf s stamp .image) (blockLength (v .geometry)) (only (λ k. k .live) (sight s v)) (unusables v)

@@ -1,20 +1,20 @@
 -- DEMAND 3: after every list of calls the image holds what the history says, given what each accepted writing call leaves.
 use Prim.Native.Nat.{ℕ}
-use mathlib.Core.List.{List}
+use mathlib.Core.List.{List, []}
 use native.Mathlib.Omega.{arith}
 use Rattle.rules.specs.Refusals.{entries}
 use Rattle.rules.specs.Refusals.Laws.{judge-opens}
 use Rattle.rules.specs.History.{History, nothing, nameOfKept, ReadsBack, Holds, Demand3}
-use Rattle.after.specs.After.{AfterFormat, AfterCreate, AfterDelete, AfterReclaim}
+use Rattle.after.specs.After.{Extent, AfterFormat, AfterCreate, AfterDelete, AfterReclaim}
 use Rattle.laws.proofs.Lists.Perms.{perm-all, perm-map, perm-only, perm-sum}
-use Rattle.demand3.proofs.Walked.{settled-entries}
+use Rattle.laws.proofs.Entries.Walked.{settled-entries}
 use Rattle.demand3.proofs.Seen.{seen-blocks, files-apart, seen-names}
 use Rattle.demand3.proofs.ReadBack.{reads-back}
 use Rattle.demand3.proofs.Linked.{Link, formatted, linked}
 
 -- an image that agrees with its history holds what that says
-pub held : (s : List ℕ) (h : History) → Link s h → Holds s h
-held s h l =
+pub held : (s : List ℕ) (h : History) (bad : List Extent) → Link s h bad → Holds s h
+held s h bad l =
     let v = l .volume in
     let o = judge-opens s v (l .opens) in
     record {
@@ -29,6 +29,6 @@ held s h l =
 module _ (format-left : AfterFormat) (create-left : AfterCreate) (delete-left : AfterDelete) (reclaim-left : AfterReclaim) where
   pub demand-3 : Demand3
   demand-3 s bytesPerBlock reserved name stamp e cs =
-      held _ _
-      (linked format-left create-left delete-left reclaim-left _ _ cs
+      held _ _ _
+      (linked format-left create-left delete-left reclaim-left _ _ [] cs
       (formatted format-left create-left delete-left reclaim-left s nothing bytesPerBlock reserved name stamp e))

@@ -1,4 +1,3 @@
-pub mod Walked
 pub mod Seen
 pub mod ReadBack
 pub mod Calls

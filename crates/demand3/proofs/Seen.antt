@@ -4,12 +4,10 @@ use mathlib.Core.Path.{_≡_, refl, sym, ap, _∙_}
 use mathlib.Core.Bool.{Bool, true, false}
 use mathlib.Core.List.{List, [], _∷_, map}
 use native.Mathlib.Omega.{arith}
-use lib.Dec.{eqb}
-use borrow.Author.Tests.{ne-eqb}
 use Rattle.rules.specs.Lists.{pick, keepIf, only, sum, All, Pairs}
 use Rattle.rules.specs.Lists.Laws.{clash, or-right}
 use Rattle.rules.specs.SuperBlock.{Geometry}
-use Rattle.rules.specs.Index.{Entry, runType, directoryType, fileType, liveType, typeFile, typeDirectory, typeUnusable}
+use Rattle.rules.specs.Index.{Entry, runType, directoryType, fileType, liveType, typeFile, typeDirectory}
 use Rattle.rules.specs.Regions.{blocksOf, regionsSound, heldBlocks}
 use Rattle.rules.specs.Regions.Laws.{apart-none}
 use Rattle.rules.specs.Paths.{isLive}
@@ -18,7 +16,7 @@ use Rattle.rules.specs.History.{NoShared, nameOfEntry, nameOfKept}
 use Rattle.after.specs.After.{isNamed, seen, sight}
 use Rattle.laws.proofs.Lists.Parts.{sum-map}
 use Rattle.laws.proofs.Lists.Every.{pairs-weaken, pairs-only}
-use Rattle.laws.proofs.Entries.EntryKinds.{live-cases}
+use Rattle.laws.proofs.Entries.EntryKinds.{live-cases, run-usable}
 use Rattle.laws.proofs.Entries.Regions.{Settled, sound-says}
 
 -- ---- kinds
@@ -31,15 +29,10 @@ pub live-kind : (t : ℕ) → liveType t ≡ true → (runType t ≡ true) × (p
 unfolding runType directoryType fileType pick
 live-kind = live-cases (λ t. (runType t ≡ true) × (pick (fileType t) typeFile typeDirectory ≡ t)) (refl, refl) (refl, refl)
 
--- an unusable entry has no name
-named-usable : (t : ℕ) → runType t ≡ true → eqb t typeUnusable ≡ false
-unfolding runType directoryType fileType
-named-usable t r = ne-eqb t typeUnusable (λ e. clash (sym (rw e at r)))
-
 -- ---- blocks: only files hold any
 no-blocks : (e : Entry) → Settled e → runType (e .kind) ≡ true → fileType (e .kind) ≡ false → blocksOf e ≡ 0
 unfolding blocksOf
-no-blocks e s r f = let n = s f (named-usable (e .kind) r) in omega (arith, n .end)
+no-blocks e s r f = let n = s f (run-usable (e .kind) r) in omega (arith, n .end)
 
 sum-files : (es : List Entry) → All Settled es → sum blocksOf (only isNamed es) ≡ sum blocksOf (only (λ e. fileType (e .kind)) es)
 unfolding only isNamed keepIf sum

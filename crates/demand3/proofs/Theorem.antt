@@ -1,9 +1,9 @@
 -- DEMAND 3: after every list of the eight calls, with any arguments, from any accepted format, the image holds what the history says.
 use Rattle.rules.specs.History.{Demand3}
-use Rattle.after.proofs.Format.Format.{format-left}
-use Rattle.after.proofs.Create.Create.{create-left}
-use Rattle.after.proofs.Delete.Deleted.{delete-left}
-use Rattle.after.proofs.Reclaim.Reclaimed.{reclaim-left}
+use Rattle.after.proofs.Format.Left.{format-left}
+use Rattle.after.proofs.Create.Left.{create-left}
+use Rattle.after.proofs.Delete.Left.{delete-left}
+use Rattle.after.proofs.Reclaim.Left.{reclaim-left}
 use Rattle.demand3.proofs.Demand.{demand-3}
 
 pub demand3 : Demand3

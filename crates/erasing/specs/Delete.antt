@@ -23,8 +23,8 @@ use Rattle.geometry.specs.declared.Geometry.{Geometry as Held}
 use Rattle.units.specs.declared.Offset.{Offset}
 use Rattle.laws.proofs.Index.Items.{slotsIn}
 use Rattle.laws.proofs.Index.Places.{Found, first-split, slot-there, place-within}
+use Rattle.laws.proofs.Index.Slots.{items-walk}
 use Rattle.laws.proofs.Images.Areas.{slot-on, inner-end}
-use Rattle.laws.proofs.Images.Indexes.{items-walk}
 use Rattle.judging.specs.View.{Opened, volumeOf, opened-super}
 use Rattle.erasing.specs.declared.Doom.{Doom}
 use Rattle.erasing.specs.declared.Doom.the-variants.{Refused, At}

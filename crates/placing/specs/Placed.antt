@@ -1,6 +1,6 @@
 -- What the parts of a create leave, put together.
 use Prim.Native.Nat.{ℕ, _+_, _-_, _*_, _≤_}
-use mathlib.Core.Path.{_≡_, sym, ap, _∙_}
+use mathlib.Core.Path.{_≡_, refl, sym, ap, _∙_}
 use mathlib.Core.Bool.{Bool, true, false}
 use mathlib.Core.List.{List, []}
 use native.Mathlib.Omega.{arith}
@@ -16,7 +16,7 @@ use Rattle.rules.specs.Index.Laws.{continuing-new, continuing-room}
 use Rattle.rules.specs.Writing.{New, newFile, newDirectory, kindOf, bytesOf, newEntry, putMarker, created}
 use Rattle.geometry.specs.View.{geometryView}
 use Rattle.placing.specs.declared.Site.{Site}
-use Rattle.placing.specs.Site.{newOf, siteEntry, siteImage, SiteIn}
+use Rattle.placing.specs.Site.{newOf, siteImage, SiteIn}
 
 -- ---- the blocks
 -- the region lies in an image of n bytes and holds so many
@@ -65,7 +65,9 @@ roomEntry kind path bytes stamp p = record {
 }
 
 abbrev pub roomImage : List ℕ → ℕ → List ℕ → List ℕ → ℤ → Site → List ℕ
-roomImage s kind path bytes stamp p = created s (geometryView (p .old)) (geometryView (p .new)) (roomEntry kind path bytes stamp p) bytes
+roomImage s kind path bytes stamp p =
+    let g = geometryView (p .new) in
+    blocksImage (splice (putMarker (putSizes s g) (geometryView (p .old)) g) (slotAt s g (p .slot .0)) (runBytes (roomEntry kind path bytes stamp p))) p bytes
 
 pub record Room (s : List ℕ) (kind : ℕ) (path bytes : List ℕ) (p : Site) : Type 0 where
   pub long : 512 ≤ length s
@@ -85,7 +87,7 @@ pub room-put : (s s₁ s₂ s₃ s₄ : List ℕ) (kind : ℕ) (path bytes : Lis
     → s₃ ≡ splice s₂ at (runBytes (roomEntry kind path bytes z p))
     → s₄ ≡ blocksImage s₃ p bytes
     → s₄ ≡ roomImage s kind path bytes z p
-unfolding created slotAt
+unfolding slotAt
 room-put s s₁ s₂ s₃ s₄ kind path bytes z p at e e₁ e₂ e₃ e₄ = rw (e₄, e₃, e₂, e₁, e)
 
 -- ---- a site has that room, and its image is that one
@@ -104,11 +106,8 @@ module _ (s : List ℕ) (new : New) (path : List ℕ) (p : Site) (i : SiteIn s n
   }
 
   pub site-image : (z : ℤ) → roomImage s (kindOf new) path (bytesOf new) z p ≡ siteImage s new path z p
-  unfolding newEntry
-  site-image z =
-      let end : p .end .0 ≡ p .start .0 + (p .end .0 - p .start .0) = omega (arith, i .ordered) in
-      let e : roomEntry (kindOf new) path (bytesOf new) z p ≡ siteEntry new path z p = rw (i .slots) cc in
-      ap (λ (x : Entry). created s (geometryView (p .old)) (geometryView (p .new)) x (bytesOf new)) e
+  unfolding created newEntry
+  site-image z = refl
 
 -- ---- as a program is told what is new: whether it is a file, and bytes
 module _ (s path : List ℕ) (p : Site) (bytes : List ℕ) where

@@ -1,4 +1,4 @@
--- A site in the rules' words: the entry made there, the image that results, and that all of it lies in the image.
+-- A site in the rules' words: the image that results, and that all of it lies in the image.
 use Prim.Native.Nat.{ℕ, _+_, _-_, _*_, _≤_}
 use mathlib.Core.Path.{_≡_}
 use mathlib.Core.Bool.{Bool, true, false}
@@ -6,8 +6,8 @@ use mathlib.Core.List.{List}
 use lib.ListN.{length}
 use lib.IntN.{ℤ}
 use Rattle.rules.specs.SuperBlock.{blockLength}
-use Rattle.rules.specs.Index.{Entry, continuing}
-use Rattle.rules.specs.Writing.{New, newFile, newDirectory, kindOf, bytesOf, newEntry, created}
+use Rattle.rules.specs.Index.{continuing}
+use Rattle.rules.specs.Writing.{Site as Placing, New, newFile, newDirectory, kindOf, bytesOf, created}
 use Rattle.geometry.specs.View.{geometryView}
 use Rattle.placing.specs.declared.Site.{Site}
 
@@ -16,11 +16,18 @@ unfoldable pub newOf : Bool → List ℕ → New
 newOf true bytes = newFile bytes
 newOf false bytes = newDirectory
 
-abbrev pub siteEntry : New → List ℕ → ℤ → Site → Entry
-siteEntry new path stamp p = newEntry new path stamp (p .slot .0) (p .start .0) (p .end .0 - p .start .0)
+abbrev pub siteView : Site → Placing
+siteView p = record {
+  old = geometryView (p .old);
+  new = geometryView (p .new);
+  slot = p .slot .0;
+  slots = p .slots;
+  start = p .start .0;
+  end = p .end .0;
+}
 
 abbrev pub siteImage : List ℕ → New → List ℕ → ℤ → Site → List ℕ
-siteImage s new path stamp p = created s (geometryView (p .old)) (geometryView (p .new)) (siteEntry new path stamp p) (bytesOf new)
+siteImage s new path stamp p = created s (siteView p) new path stamp
 
 pub record SiteIn (s : List ℕ) (new : New) (path : List ℕ) (p : Site) : Type 0 where
   pub long : 512 ≤ length s

@@ -21,12 +21,11 @@ use Rattle.rules.specs.Regions.Laws.{needed-covers}
 use Rattle.rules.specs.Paths.{lookup}
 use Rattle.rules.specs.Refusals.{refused, Volume, entries, judge}
 use Rattle.rules.specs.Refusals.Laws.{Opens, judge-opens}
-use Rattle.rules.specs.Writing.{New, newFile, newDirectory, kindOf, bytesOf, nearestLive, Place, placeRun, placeFile, newEntry, created, createOf}
+use Rattle.rules.specs.Writing.{Site as Placing, New, kindOf, bytesOf, nearestLive, Place, placeRun, placeFile, created, createOf, newSlots, newBlocks, siteOf}
 use Rattle.rules.specs.Writing.Laws.{refusedWrite, wrote, create-refused, create-later, create-name, create-live, create-orphan, create-slots, create-blocks, create-done}
 use Rattle.laws.proofs.Entries.Creating.{block-pos, place-fits}
-use Rattle.after.proofs.Create.Inverted.{newBlocks, newSlots, newGeometry, Placed, run-place}
-use Rattle.after.proofs.Create.Added.{Inside, place-inside}
-use Rattle.after.proofs.Create.Sizes.{Grown, place-grown, Sizes, new-sizes, same-length}
+use Rattle.laws.proofs.Images.Sizes.{block-same}
+use Rattle.laws.proofs.Images.Placing.{newGeometry, Placed, run-place, RunFits, run-inside, Grown, place-grown, Sizes, new-sizes}
 use Rattle.geometry.specs.View.{geometryView}
 use Rattle.geometry.specs.declared.Geometry.{Geometry as Held}
 use Rattle.regions.specs.Bounds.{good-bounded}
@@ -36,7 +35,7 @@ use Rattle.index.specs.Steps.{entriesFrom}
 use Rattle.judging.specs.View.{Opened, volumeOf}
 use Rattle.paths.specs.View.{Searched, isFound, found-view}
 use Rattle.paths.specs.declared.Search.{Search}
-use Rattle.placing.specs.Site.{siteImage, SiteIn, newOf}
+use Rattle.placing.specs.Site.{siteImage, SiteIn, newOf, siteView}
 use Rattle.placing.specs.declared.Site.{Site}
 use Rattle.planning.specs.Places.{Growable}
 use Rattle.planning.specs.declared.Plan.{Plan}
@@ -174,7 +173,7 @@ sizes-of n g h end stamp w e k fits = rw e (new-sizes n g h end stamp k fits)
 
 -- a file's blocks, by the geometry before and by the one written
 blocks-hold : (n : ℕ) (g h : Geometry) (end : ℕ) (w : Geometry) → Sizes n g h end w → (bytes : ℕ) → bytes ≤ blocksNeeded (blockLength g) bytes * blockLength w
-blocks-hold n g h end w z bytes = rw (same-length g w (z .same)) (needed-covers (blockLength g) bytes (block-pos g))
+blocks-hold n g h end w z bytes = rw (block-same g w (z .same)) (needed-covers (blockLength g) bytes (block-pos g))
 
 module _ (s : List ℕ) (new : New) (path : List ℕ) (stamp : ℤ) (p : Site) (opened : Opened s (p .old)) (passed : Clear s (p .old) path) (grown : Held) (slots : p .slots ≡ newSlots new path)
     (run : placeRun (length s) (volumeOf s (geometryView (p .old))) (newSlots new path) ≡ some (record { slot = p .slot .0; geometry = geometryView grown }))
@@ -202,8 +201,8 @@ module _ (s : List ℕ) (new : New) (path : List ℕ) (stamp : ℤ) (p : Site) (
   sizes : Sizes (length s) g (geometryView grown) (p .end .0) w
   sizes = sizes-of (length s) g (geometryView grown) (p .end .0) stamp w view (run-grown s (p .old) opened new path passed place run) fits
 
-  inside : Inside (newSlots new path) place
-  inside = place-inside s (volumeOf s g) says (newSlots new path) place (run-place (length s) (volumeOf s g) (newSlots new path) place run)
+  inside : RunFits (newSlots new path) place
+  inside = run-inside s (volumeOf s g) says (newSlots new path) place (run-place (length s) (volumeOf s g) (newSlots new path) place run)
 
   span : p .end .0 - p .start .0 ≡ blocks
   span = omega (arith, end)
@@ -223,12 +222,13 @@ module _ (s : List ℕ) (new : New) (path : List ℕ) (stamp : ℤ) (p : Site) (
     holds = rw span (blocks-hold (length s) g (geometryView grown) (p .end .0) w sizes (length (bytesOf new)));
   }
 
+  same : siteView p ≡ siteOf (volumeOf s g) new path stamp place (p .start .0)
+  same = rw (view, end, slots)
+
   written : createOf s new path stamp ≡ wrote (siteImage s new path stamp p)
-  unfolding newEntry
   written =
       create-done s (volumeOf s g) opened (passed .current) new path stamp (passed .named) (passed .absent) (passed .nearest) place run (p .start .0) file
-      ∙ ap₂ (λ (x : Geometry) (k : ℕ). wrote (created s g x (newEntry new path stamp (p .slot .0) (p .start .0) k) (bytesOf new)))
-      (sym (view ∙ ap (λ (x : ℕ). newGeometry g (geometryView grown) x stamp) end)) (sym span)
+      ∙ ap (λ (x : Placing). wrote (created s x new path stamp)) (sym same)
 
   pub planned-at : Planned s new path stamp (At p)
   unfolding Planned

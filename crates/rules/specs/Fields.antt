@@ -27,13 +27,14 @@ leBytes (suc w) v = v % 256 ∷ leBytes w (v / 256)
 unfoldable pub splice : List ℕ → ℕ → List ℕ → List ℕ
 splice s at bs = take at s ++ (bs ++ drop (at + length bs) s)
 
--- the signed number of 64 bits, and back: from 2 ^ 63 up the bits stand for the number less 2 ^ 64
+-- the signed number of 64 bits: from 2 ^ 63 up they stand for the number less 2 ^ 64
 unfoldable pub signedOf : ℕ → ℤ
 signedOf n = pick (ltb n (2 ^ 63)) (pos n) (negsuc (2 ^ 64 - 1 - n))
 
+-- the lowest 64 bits of any number, that is the number modulo 2 ^ 64
 unfoldable pub bitsOf : ℤ → ℕ
-bitsOf (pos n) = n
-bitsOf (negsuc n) = 2 ^ 64 - 1 - n
+bitsOf (pos n) = n % 2 ^ 64
+bitsOf (negsuc n) = 2 ^ 64 - 1 - n % 2 ^ 64
 
 -- a stamp, read and as it is stored
 unfoldable pub stampIn : List ℕ → ℕ → ℤ

@@ -1,5 +1,6 @@
 -- 01, "Index area": slots, kinds, entries, and the walk that takes the index apart.
-use Prim.Native.Nat.{ℕ, zero, suc, _+_, _-_, _*_, _/_}
+use Prim.Native.Nat.{ℕ, zero, suc, _+_, _-_, _*_, _/_, _≤_}
+use mathlib.Core.Path.{_≡_}
 use mathlib.Core.Bool.{Bool, true, false, _&&_, _||_, not}
 use mathlib.Core.List.{List, [], _∷_, _++_}
 use lib.ListN.{length, take, drop, replicate}
@@ -159,12 +160,28 @@ followed (unused k) rest = unused k ∷ rest 1
 followed (entry e) rest = entry e ∷ rest (e .slots)
 followed (fault k) rest = fault k ∷ []
 
--- the items of `left` slots, of which slot k is the first and `a` starts with it. The first number only bounds the steps.
+-- the items of `left` slots, of which slot k is the first and `a` starts with it. The first number only bounds the steps,
+-- since an item has a slot at least: as many steps as slots suffice.
 unfoldable pub walk : ℕ → ℕ → ℕ → List ℕ → List Item
 walk zero left k a = []
 walk (suc steps) zero k a = []
 walk (suc steps) (suc left) k a =
     followed (itemAt (suc left) k a) (λ n. walk steps (suc left - n) (k + n) (drop (slotBytes * n) a))
+
+-- the same without the count
+unfoldable pub walkAll : ℕ → ℕ → List ℕ → List Item
+walkAll left k a = walk left left k a
+
+-- its equation (`walk-equation`): the item that stands first, then the walk over the slots behind it
+abbrev pub WalkEquation : Type 0
+WalkEquation =
+    (left k : ℕ) (a : List ℕ)
+    → walkAll left k a
+    ≡ pick (eqb left 0) [] (followed (itemAt left k a) (λ n. walkAll (left - n) (k + n) (drop (slotBytes * n) a)))
+
+-- the count never runs out (`steps-suffice`): with more steps the walk is the same
+abbrev pub StepsSuffice : Type 0
+StepsSuffice = (steps left k : ℕ) (a : List ℕ) → left ≤ steps → walk steps left k a ≡ walkAll left k a
 
 -- ---- the index area of an image
 -- the place of slot k
@@ -177,7 +194,7 @@ innerSlots g = g .indexBytes / slotBytes - 2
 
 -- all between them, in slot order
 unfoldable pub itemsOf : List ℕ → Geometry → List Item
-itemsOf s g = walk (innerSlots g) (innerSlots g) 1 (drop (slotAt s g 1) s)
+itemsOf s g = walkAll (innerSlots g) 1 (drop (slotAt s g 1) s)
 
 unfoldable pub entriesOf : List Item → List Entry
 entriesOf [] = []

@@ -32,7 +32,7 @@ unfoldable pub intoFirst : ℕ → List (List ℕ) → List (List ℕ)
 intoFirst b [] = (b ∷ []) ∷ []
 intoFirst b (p ∷ ps) = (b ∷ p) ∷ ps
 
--- the parts between slashes: one more than there are slashes
+-- the parts between slashes, one more than there are slashes: a//b has the parts a, the empty one and b
 unfoldable pub parts : List ℕ → List (List ℕ)
 parts [] = [] ∷ []
 parts (b ∷ bs) = pick (eqb b slash) ([] ∷ parts bs) (intoFirst b (parts bs))
@@ -61,7 +61,7 @@ unfoldable pub leadIf : Bool → List (List ℕ) → List (List ℕ)
 leadIf true ps = [] ∷ ps
 leadIf false ps = ps
 
--- its proper leading paths, the shortest first: what stands before each slash
+-- its proper leading paths, the shortest first, what stands before each slash: a/b/c has a and a/b
 unfoldable pub leading : List ℕ → List (List ℕ)
 leading [] = []
 leading (b ∷ bs) = leadIf (eqb b slash) (map (λ p. b ∷ p) (leading bs))

@@ -1,5 +1,6 @@
 -- 01, "Index area": regions, what they may be, and which blocks are free.
-use Prim.Native.Nat.{ℕ, zero, suc, _+_, _-_, _*_, _/_}
+use Prim.Native.Nat.{ℕ, zero, suc, _+_, _-_, _*_, _/_, _≤_, _<_}
+use mathlib.Core.Path.{_≡_}
 use mathlib.Core.Bool.{Bool, true, false, _&&_, _||_, not}
 use mathlib.Core.List.{List, [], _∷_}
 use mathlib.Core.Option.{Option, none, some}
@@ -59,6 +60,12 @@ lowestFrom es k (suc n) b = let r = lowestFrom es k n (suc b) in firstIf (runFre
 -- the lowest start, at or past `low`, of k free blocks that end at or below `ceiling`
 unfoldable pub lowestFree : List Entry → ℕ → ℕ → ℕ → Option ℕ
 lowestFree es k low ceiling = lowestFrom es k (ceiling + 1 - (low + k)) low
+
+-- what that says (`lowest-run`): k free blocks between `low` and `ceiling`, and no lower start has them; or no start has them
+unfoldable pub LowestRun : List Entry → ℕ → ℕ → ℕ → Option ℕ → Type 0
+LowestRun es k low ceiling (some b) =
+    (low ≤ b) × (b + k ≤ ceiling) × (runFree es b k ≡ true) × ((u : ℕ) → low ≤ u → u < b → runFree es u k ≡ false)
+LowestRun es k low ceiling none = (u : ℕ) → low ≤ u → u + k ≤ ceiling → runFree es u k ≡ false
 
 -- the blocks that a file of so many bytes needs
 unfoldable pub blocksNeeded : ℕ → ℕ → ℕ

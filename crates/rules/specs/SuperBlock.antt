@@ -91,8 +91,11 @@ unfoldable pub dataEnd : Geometry → ℕ
 dataEnd g = g .reserved + g .dataBlocks
 
 -- an index area has 128 to 262,144 bytes, in slots of 64
+abbrev pub mostIndexBytes : ℕ
+mostIndexBytes = 262_144
+
 unfoldable pub indexGood : ℕ → Bool
-indexGood i = leb 128 i && leb i 262_144 && eqb (i % 64) 0
+indexGood i = leb 128 i && leb i mostIndexBytes && eqb (i % 64) 0
 
 -- a good geometry of an image of n bytes
 unfoldable pub geometryGood : ℕ → Geometry → Bool

@@ -8,7 +8,7 @@ use lib.Dec.{eqb, leb}
 use lib.IntN.{ℤ}
 use Rattle.rules.specs.Lists.{pick, only, firstIf, padded, largest}
 use Rattle.rules.specs.Fields.{splice}
-use Rattle.rules.specs.SuperBlock.{Geometry, blockBytes, blockLength, ceilingBlock, dataEnd, fieldOf, geometryGood, lengthGood, growIndex, extendData, trimData, restamp, superBlockBytes, superBlockAt, putSizes, version10, writable}
+use Rattle.rules.specs.SuperBlock.{Geometry, blockBytes, blockLength, ceilingBlock, dataEnd, mostIndexBytes, fieldOf, geometryGood, lengthGood, growIndex, extendData, trimData, restamp, superBlockBytes, superBlockAt, putSizes, version10, writable}
 use Rattle.rules.specs.Names.{pathGood, newPathGood, volumeNameGood, leading}
 use Rattle.rules.specs.Index.{Entry, Item, unused, entry, fault, fileType, deletedType, typeFile, typeDirectory, typeDeletedFile, typeDeletedDirectory, slotBytes, slotAt, markerBytes, identifierBytes, unusedBytes, continuing, runBytes, retyped}
 use Rattle.rules.specs.Regions.{lowestFree, blocksNeeded}
@@ -64,7 +64,7 @@ unfoldable pub bytesOf : New → List ℕ
 bytesOf (newFile bytes) = bytes
 bytesOf newDirectory = []
 
--- its directory, if any, is live: the longest of the leading paths
+-- its directory, if any, is live, the longest of its leading paths: of a and a/b it is a/b
 unfoldable pub nearestLive : List Entry → List (List ℕ) → Bool
 nearestLive es [] = true
 nearestLive es (p ∷ []) = directoryLive es p
@@ -88,23 +88,31 @@ unfoldable pub lowestUnused : ℕ → List Item → Option ℕ
 lowestUnused n [] = none
 lowestUnused n (i ∷ is) = firstIf (startsUnused n (i ∷ is)) (itemSlot i) (lowestUnused n is)
 
--- a place for a run: its first slot, and the geometry after any growth
+-- the slots of the run, and the blocks of the bytes
+abbrev pub newSlots : New → List ℕ → ℕ
+newSlots new path = 1 + continuing (kindOf new) (length path)
+
+abbrev pub newBlocks : Geometry → New → ℕ
+newBlocks g new = blocksNeeded (blockLength g) (length (bytesOf new))
+
+-- a place for the run: its first slot, and the geometry after any growth of the index
 pub record Place : Type 0 where
   pub slot : ℕ
   pub geometry : Geometry
 
--- the index may grow to 262,144 bytes and down to the data area's end
+-- an index may grow to 262,144 bytes, and down to the data area's end
 unfoldable pub mayGrow : ℕ → Geometry → Bool
-mayGrow n g = leb (g .indexBytes) 262_144 && leb (dataEnd g) (ceilingBlock n g)
+mayGrow n grown = leb (grown .indexBytes) mostIndexBytes && leb (dataEnd grown) (ceilingBlock n grown)
 
+-- the run is the first in an index that has grown by it
 unfoldable pub grownPlace : ℕ → Geometry → Option Place
-grownPlace n g = pick (mayGrow n g) (some (record { slot = 1; geometry = g })) none
+grownPlace n grown = pick (mayGrow n grown) (some (record { slot = 1; geometry = grown })) none
 
+-- the index keeps its size where it has unused slots for the run, else it grows
 unfoldable pub placeFrom : ℕ → Geometry → ℕ → Option ℕ → Option Place
-placeFrom n g slots (some k) = some (record { slot = k; geometry = g })
-placeFrom n g slots none = grownPlace n (growIndex g (slotBytes * slots))
+placeFrom n kept slots (some k) = some (record { slot = k; geometry = kept })
+placeFrom n kept slots none = grownPlace n (growIndex kept (slotBytes * slots))
 
--- the lowest unused slots that hold the run, else the index grows by it
 unfoldable pub placeRun : ℕ → Volume → ℕ → Option Place
 placeRun n v slots = placeFrom n (v .geometry) slots (lowestUnused slots (v .items))
 
@@ -113,15 +121,37 @@ unfoldable pub placeFile : ℕ → Geometry → List Entry → ℕ → Option �
 placeFile n g es zero = some 0
 placeFile n g es (suc k) = lowestFree es (suc k) (g .reserved) (ceilingBlock n g)
 
+-- where all of it goes
+pub record Site : Type 0 where
+  pub old : Geometry  -- before the call
+  pub new : Geometry  -- after it
+  pub slot : ℕ  -- the run's first slot, in the new index
+  pub slots : ℕ  -- how many it has
+  pub start : ℕ  -- the file's first block
+  pub end : ℕ  -- the block past its last
+
+-- the run at its place, the blocks from `start` on. The data area grows only if the blocks pass its end.
+abbrev pub siteOf : Volume → New → List ℕ → ℤ → Place → ℕ → Site
+siteOf v new path stamp run start =
+    let end : ℕ = start + newBlocks (v .geometry) new in
+    record {
+      old = v .geometry;
+      new = restamp (v .geometry) (extendData (run .geometry) end) stamp;
+      slot = run .slot;
+      slots = newSlots new path;
+      start = start;
+      end = end;
+    }
+
 -- the new entry
-unfoldable pub newEntry : New → List ℕ → ℤ → ℕ → ℕ → ℕ → Entry
-newEntry new path stamp slot start blocks = record {
+unfoldable pub newEntry : Site → New → List ℕ → ℤ → Entry
+newEntry site new path stamp = record {
   kind = kindOf new;
-  slot = slot;
-  slots = 1 + continuing (kindOf new) (length path);
+  slot = site .slot;
+  slots = site .slots;
   stamp = stamp;
-  start = start;
-  end = start + blocks;
+  start = site .start;
+  end = site .end;
   length = length (bytesOf new);
   path = path;
 }
@@ -131,24 +161,21 @@ unfoldable pub putMarker : List ℕ → Geometry → Geometry → List ℕ
 putMarker s old new = pick (eqb (old .indexBytes) (new .indexBytes)) s (splice s (slotAt s new 0) markerBytes)
 
 -- sizes, marker, run, and the blocks: the bytes, and zeros to the end of the last block
-unfoldable pub created : List ℕ → Geometry → Geometry → Entry → List ℕ → List ℕ
-created s old new e bytes =
-    splice (splice (putMarker (putSizes s new) old new) (slotAt s new (e .slot)) (runBytes e))
-    (e .start * blockLength new)
-    (padded bytes ((e .end - e .start) * blockLength new))
+unfoldable pub created : List ℕ → Site → New → List ℕ → ℤ → List ℕ
+created s site new path stamp =
+    let marked : List ℕ = putMarker (putSizes s (site .new)) (site .old) (site .new) in
+    let indexed : List ℕ = splice marked (slotAt s (site .new) (site .slot)) (runBytes (newEntry site new path stamp)) in
+    splice indexed (site .start * blockLength (site .new)) (padded (bytesOf new) ((site .end - site .start) * blockLength (site .new)))
 
 unfoldable pub createOf : List ℕ → New → List ℕ → ℤ → Written
 createOf s new path stamp =
     onWritable s (λ v.
-    let blocks : ℕ = blocksNeeded (blockLength (v .geometry)) (length (bytesOf new)) in
     need (newPathGood path) 10
     (need (not (isSome (lookup path (entries v)))) 12
     (need (nearestLive (entries v) (leading path)) 13
-    (needFound (placeRun (length s) v (1 + continuing (kindOf new) (length path))) 15 (λ p.
-    needFound (placeFile (length s) (p .geometry) (entries v) blocks) 16 (λ start.
-    let e : Entry = newEntry new path stamp (p .slot) start blocks in
-    let g : Geometry = restamp (v .geometry) (extendData (p .geometry) (e .end)) stamp in
-    accepted (done tt (created s (v .geometry) g e (bytesOf new)) [])))))))
+    (needFound (placeRun (length s) v (newSlots new path)) 15 (λ run.
+    needFound (placeFile (length s) (run .geometry) (entries v) (newBlocks (v .geometry) new)) 16 (λ start.
+    accepted (done tt (created s (siteOf v new path stamp run start) new path stamp) [])))))))
 
 -- ---- delete: the type and the stamp of its entry
 unfoldable pub deletedKind : ℕ → ℕ

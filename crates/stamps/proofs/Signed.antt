@@ -13,7 +13,7 @@ use mir.ValLaws.{toZ-ofZ, toZ-pos, toZ-neg, toZ-fits, sfits-le}
 use borrow.Author.Tests.{ltb-true}
 use Rattle.rules.specs.Lists.Laws.{clash}
 use Rattle.rules.specs.Fields.{signedOf, bitsOf}
-use Rattle.rules.specs.Fields.Signed.{signedOf-low, signedOf-high}
+use Rattle.rules.specs.Fields.Signed.{signedOf-low, signedOf-high, bitsOf-pos, bitsOf-neg}
 use Rattle.rules.specs.Dates.{floorDiv, floorMod}
 use Rattle.rules.specs.Dates.Laws.{mag-neg}
 
@@ -65,15 +65,13 @@ pub to-neg-cast : (n : ℕ) → n < 2 ^ 63
 to-neg-cast n h = rw (not-back (negsuc n) (record { sfits = h })) (tt, record { fits = omega arith })
 
 pub to-neg : (n : ℕ) → n < 2 ^ 63 → 2 ^ 64 - 1 - natAbs (toZ w64 (2 ^ 64 - 1 - ofZ w64 (negsuc n))) ≡ bitsOf (negsuc n)
-unfolding bitsOf
-to-neg n h = rw (not-back (negsuc n) (record { sfits = h }))
+to-neg n h = rw (not-back (negsuc n) (record { sfits = h })) (sym (bitsOf-neg n (omega arith)))
 
 pub to-pos-cast : (n : ℕ) → n < 2 ^ 63 → T (nonNeg (toZ w64 (ofZ w64 (pos n)))) × Fits w64 (natAbs (toZ w64 (ofZ w64 (pos n))))
 to-pos-cast n h = rw (toZ-pos w64 n h) (tt, record { fits = omega arith })
 
 pub to-pos : (n : ℕ) → n < 2 ^ 63 → natAbs (toZ w64 (ofZ w64 (pos n))) ≡ bitsOf (pos n)
-unfolding bitsOf
-to-pos n h = rw (toZ-pos w64 n h)
+to-pos n h = rw (toZ-pos w64 n h) (sym (bitsOf-pos n (omega arith)))
 
 -- ---- floor_div
 above : (b : ℤ) → pos 0 <ℤ b → (m : ℕ) × (b ≡ pos m) × (0 < m)

@@ -17,12 +17,14 @@ use Rattle.rules.specs.History.{marked}
 use Rattle.after.specs.After.{isNamed, seen}
 use Rattle.laws.proofs.Lists.Parts.{map-map, only-map, only-ext}
 use Rattle.laws.proofs.Lists.Every.{map-ext, all-weaken, all-and, all-only}
-use Rattle.laws.proofs.Index.Deleted.{deleted-file, deleted-run, live-run}
-use Rattle.laws.proofs.Entries.EntryKinds.{deleted-gone}
+use Rattle.laws.proofs.Index.Retyped.{retypedEntry}
+use Rattle.laws.proofs.Entries.EntryKinds.{deleted-file, deleted-run, live-run, deleted-gone}
 use Rattle.laws.proofs.Entries.Regions.{sound-says}
 use Rattle.laws.proofs.Entries.Paths.{liveAt-says}
 use Rattle.laws.proofs.Entries.Deleting.{deletedEntry, deleteAt, delete-here, delete-other}
-use Rattle.laws.proofs.Images.Areas.{Between, Bare, bytes-kept}
+use Rattle.laws.proofs.Entries.Walked.{Bare}
+use Rattle.laws.proofs.Images.Kept.{Between}
+use Rattle.laws.proofs.Images.Areas.{bytes-kept}
 
 -- a test that fails together with another
 not-too : (a b : Bool) → (a && b) ≡ false → a ≡ (a && not b)
@@ -35,7 +37,7 @@ both-fail a b e = let p = and-true a b e in rw (p .0, p .1)
 
 module _ (s t : List ℕ) (g : Geometry) (good : GoodGeometry (length s) g) (same : Between s t g) (path : List ℕ) (stamp : ℤ) where
   mark-here : (e : Entry) → Bare e → regionGood g e ≡ true → liveAt path e ≡ true → seen t g (deletedEntry stamp e) ≡ marked path (seen s g e)
-  unfolding seen marked deletedEntry isLive blocksOf fileBytes liveAt
+  unfolding seen marked deletedEntry retypedEntry isLive blocksOf fileBytes liveAt
   mark-here e b r h =
       rw (deleted-file (e .kind), deleted-gone (e .kind), bytes-kept s t g g e good same refl b r, both-fail (isLive e) (eqList (e .path) path) h)
 
@@ -53,7 +55,7 @@ module _ (s t : List ℕ) (g : Geometry) (good : GoodGeometry (length s) g) (sam
 
   -- a named entry stays one
   still-named : (e : Entry) → isNamed (deleteAt path stamp e) ≡ isNamed e
-  unfolding isNamed deletedEntry
+  unfolding isNamed deletedEntry retypedEntry
   still-named e = go (liveAt path e) refl
     where
       go : (l : Bool) → liveAt path e ≡ l → isNamed (deleteAt path stamp e) ≡ isNamed e

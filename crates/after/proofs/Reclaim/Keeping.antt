@@ -17,7 +17,9 @@ use Rattle.after.specs.After.{isNamed, seen}
 use Rattle.laws.proofs.Lists.Parts.{only-only, only-ext, only-map}
 use Rattle.laws.proofs.Lists.Every.{map-ext, all-weaken, all-and, all-only}
 use Rattle.laws.proofs.Entries.Regions.{sound-says}
-use Rattle.laws.proofs.Images.Areas.{Between, Bare, bytes-kept}
+use Rattle.laws.proofs.Entries.Walked.{Bare}
+use Rattle.laws.proofs.Images.Kept.{Between}
+use Rattle.laws.proofs.Images.Areas.{bytes-kept}
 
 -- ---- a file or directory that is not deleted is live
 neither : (a b : Bool) → ((a || false) || (b || false)) ≡ (((a || false) || (b || false)) && (a || b))

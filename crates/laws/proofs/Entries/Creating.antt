@@ -9,9 +9,9 @@ use lib.IntN.{ℤ}
 use lib.Pow.{pow-pos}
 use Rattle.rules.specs.SuperBlock.{Geometry, blockBytes, blockLength, ceilingBlock, dataEnd}
 use Rattle.rules.specs.Index.{Entry}
-use Rattle.rules.specs.Regions.{blocksNeeded}
-use Rattle.rules.specs.Regions.Laws.{Told, lowest-is, needed-covers, needed-none}
-use Rattle.rules.specs.Writing.{New, newFile, newDirectory, kindOf, bytesOf, placeFile, newEntry}
+use Rattle.rules.specs.Regions.{LowestRun, blocksNeeded}
+use Rattle.rules.specs.Regions.Laws.{lowest-is, needed-covers, needed-none}
+use Rattle.rules.specs.Writing.{New, newFile, newDirectory, kindOf, bytesOf, placeFile, newEntry, Site}
 use Rattle.laws.proofs.Entries.Regions.{Fresh, directory, empty, run}
 
 pub block-pos : (g : Geometry) → 0 < blockLength g
@@ -23,29 +23,29 @@ place-none : (n : ℕ) (g : Geometry) (es : List Entry) (start : ℕ) → placeF
 unfolding placeFile
 place-none n g es start p = sym cc
 
-place-run : (n : ℕ) (g : Geometry) (es : List Entry) (k start : ℕ) → placeFile n g es (suc k) ≡ some start → Told es (suc k) (g .reserved) (ceilingBlock n g) (some start)
+place-run : (n : ℕ) (g : Geometry) (es : List Entry) (k start : ℕ) → placeFile n g es (suc k) ≡ some start → LowestRun es (suc k) (g .reserved) (ceilingBlock n g) (some start)
 unfolding placeFile
 place-run n g es k start p = lowest-is es (suc k) (g .reserved) (ceilingBlock n g) (some start) p
 
 pub place-fits : (n : ℕ) (g : Geometry) (es : List Entry) (blocks start : ℕ) → placeFile n g es blocks ≡ some start → start + blocks ≤ ceilingBlock n g
-unfolding Told
+unfolding LowestRun
 place-fits n g es zero start p = omega (arith, place-none n g es start p)
 place-fits n g es (suc k) start p = place-run n g es k start p .1
 
--- g is the geometry after any growth of the index, h the one that is written
-pub new-fresh : (n : ℕ) (g h : Geometry) (es : List Entry) (new : New) (path : List ℕ) (stamp : ℤ) (slot start blocks : ℕ)
-    → blocks ≡ blocksNeeded (blockLength h) (length (bytesOf new)) → placeFile n g es blocks ≡ some start → h .reserved ≡ g .reserved → start + blocks ≤ dataEnd h
-    → Fresh h es (newEntry new path stamp slot start blocks)
-unfolding Told newEntry kindOf bytesOf
-new-fresh n g h es (newFile bytes) path stamp slot start zero b p r f =
-    let l : length bytes ≤ 0 * blockLength h = rw (← b) at (needed-covers (blockLength h) (length bytes) (block-pos h)) in
-    let z : start ≡ 0 = place-none n g es start p in
+-- g is the geometry after any growth of the index
+pub new-fresh : (n : ℕ) (g : Geometry) (site : Site) (es : List Entry) (new : New) (path : List ℕ) (stamp : ℤ) (blocks : ℕ)
+    → site .end ≡ site .start + blocks → blocks ≡ blocksNeeded (blockLength (site .new)) (length (bytesOf new)) → placeFile n g es blocks ≡ some (site .start)
+    → site .new .reserved ≡ g .reserved → site .end ≤ dataEnd (site .new) → Fresh (site .new) es (newEntry site new path stamp)
+unfolding LowestRun newEntry kindOf bytesOf
+new-fresh n g site es (newFile bytes) path stamp zero e b p r f =
+    let l : length bytes ≤ 0 * blockLength (site .new) = rw (← b) at (needed-covers (blockLength (site .new)) (length bytes) (block-pos (site .new))) in
+    let z : site .start ≡ 0 = place-none n g es (site .start) p in
     empty refl (record { start = z; end = omega arith }) (omega arith)
-new-fresh n g h es (newFile bytes) path stamp slot start (suc k) b p r f =
-    let l : length bytes ≤ suc k * blockLength h = rw (← b) at (needed-covers (blockLength h) (length bytes) (block-pos h)) in
-    let t = place-run n g es k start p in
-    run (suc k) refl (rw r (t .0)) refl (omega arith) (t .2) f l
-new-fresh n g h es newDirectory path stamp slot start blocks b p r f =
-    let z : blocks ≡ 0 = b ∙ needed-none (blockLength h) (block-pos h) in
-    let q : start ≡ 0 = place-none n g es start (sym (ap (placeFile n g es) z) ∙ p) in
+new-fresh n g site es (newFile bytes) path stamp (suc k) e b p r f =
+    let l : length bytes ≤ suc k * blockLength (site .new) = rw (← b) at (needed-covers (blockLength (site .new)) (length bytes) (block-pos (site .new))) in
+    let t = place-run n g es k (site .start) p in
+    run (suc k) refl (rw r (t .0)) e (omega arith) (t .2) f l
+new-fresh n g site es newDirectory path stamp blocks e b p r f =
+    let z : blocks ≡ 0 = b ∙ needed-none (blockLength (site .new)) (block-pos (site .new)) in
+    let q : site .start ≡ 0 = place-none n g es (site .start) (sym (ap (placeFile n g es) z) ∙ p) in
     directory refl (record { start = q; end = omega arith })

@@ -11,22 +11,14 @@ use Rattle.rules.specs.Index.{Entry}
 use Rattle.rules.specs.Regions.{regionsSound}
 use Rattle.rules.specs.Paths.{isLive, liveAt, pathsSound, anyBelow}
 use Rattle.rules.specs.Writing.{deletedKind}
+use Rattle.laws.proofs.Index.Retyped.{retypedEntry}
 use Rattle.laws.proofs.Entries.EntryKinds.{deleted-gone}
 use Rattle.laws.proofs.Entries.Regions.{SameRegion, same-region, deleted-region, sound-map}
 use Rattle.laws.proofs.Entries.Paths.{Deletes, paths-delete, map-live, liveAt-says, liveAt-holds}
 
 -- an entry as delete leaves it
 unfoldable pub deletedEntry : ℤ → Entry → Entry
-deletedEntry stamp e = record {
-  kind = deletedKind (e .kind);
-  slot = e .slot;
-  slots = e .slots;
-  stamp = stamp;
-  start = e .start;
-  end = e .end;
-  length = e .length;
-  path = e .path;
-}
+deletedEntry stamp e = retypedEntry (deletedKind (e .kind)) stamp e
 
 -- the live entry of the path, and no other
 unfoldable pub deleteAt : List ℕ → ℤ → Entry → Entry
@@ -41,8 +33,8 @@ module _ (path : List ℕ) (stamp : ℤ) where
   unfolding deleteAt
   delete-other e h = pick-false (deletedEntry stamp e) e h
 
-  delete-region : (e : Entry) → SameRegion e (deleteAt path stamp e)
-  unfolding deleteAt deletedEntry pick
+  pub delete-region : (e : Entry) → SameRegion e (deleteAt path stamp e)
+  unfolding deleteAt deletedEntry retypedEntry pick
   delete-region e = go (liveAt path e) refl
     where
       go : (t : Bool) → liveAt path e ≡ t → SameRegion e (pick t (deletedEntry stamp e) e)
@@ -53,7 +45,7 @@ module _ (path : List ℕ) (stamp : ℤ) where
   delete-regions g es = sound-map g (deleteAt path stamp) delete-region es
 
   deletes : Deletes path (deleteAt path stamp)
-  unfolding deletedEntry isLive
+  unfolding deletedEntry retypedEntry isLive
   deletes = record {
     gone = λ e h. ap isLive (delete-here e h) ∙ deleted-gone (e .kind);
     others = λ e h. record { kind = ap (λ (x : Entry). x .kind) (delete-other e h); path = ap (λ (x : Entry). x .path) (delete-other e h) };

@@ -98,6 +98,15 @@ file-region g e f r = go (file-says g e (sym (pick-true _ _ f) ∙ r))
     go (inl (n, l)) = record { lower = inl (n .end); order = omega (arith, n .start); upper = omega (arith, n .end); fits = omega arith }
     go (inr (w, l)) = record { lower = inr (w .low); order = omega (arith, w .some); upper = w .high; fits = l }
 
+-- one ends where the other starts, or before
+pub apart-says : (e f : Entry) → apart e f ≡ true → (e .end ≤ f .start) ⊎ (f .end ≤ e .start)
+unfolding apart
+apart-says e f h = go (leb (e .end) (f .start)) refl h
+  where
+    go : (t : Bool) → leb (e .end) (f .start) ≡ t → (t || leb (f .end) (e .start)) ≡ true → (e .end ≤ f .start) ⊎ (f .end ≤ e .start)
+    go true p q = inl (leb-true (e .end) (f .start) p)
+    go false p q = inr (leb-true (f .end) (e .start) q)
+
 -- the bytes of its blocks, in blocks of b bytes
 pub region-bytes : (e : Entry) (b : ℕ) → e .start ≤ e .end → e .start * b + blocksOf e * b ≡ e .end * b
 unfolding blocksOf

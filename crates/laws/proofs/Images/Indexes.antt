@@ -1,140 +1,143 @@
--- The items of an image: where they stand, and what deleting and clearing a run leaves of them.
-use Prim.Native.Nat.{ℕ, zero, suc, _+_, _-_, _*_, _≤_}
-use mathlib.Core.Path.{_≡_, refl, sym, ap, _∙_}
+-- The items of an image after each write to its index: slots written anew, a run of another type and stamp, the index grown by a run.
+use Prim.Native.Nat.{ℕ, _+_, _-_, _*_, _≤_}
+use mathlib.Core.Path.{_≡_, refl, sym, ap, ap₂, subst, _∙_}
 use mathlib.Core.Bool.{true}
-use mathlib.Core.List.{List, _∷_, _++_}
+use mathlib.Core.List.{List, [], _∷_, _++_, map}
 use native.Mathlib.Omega.{arith}
 use lib.ListN.{length, drop, length-drop}
 use lib.IntN.{ℤ}
-use Rattle.rules.specs.Lists.{All}
-use Rattle.rules.specs.Lists.Laws.{pick-false}
-use Rattle.rules.specs.Fields.{le, splice}
+use Rattle.rules.specs.Fields.{splice}
 use Rattle.rules.specs.SuperBlock.{Geometry}
-use Rattle.rules.specs.SuperBlock.Laws.{GoodGeometry}
-use Rattle.rules.specs.Index.{Entry, Item, unused, entry, fault, itemAt, runAt, entryAt, unusableAt, fileField, lengthAt, followed, walk, itemsOf, entriesOf, innerSlots, slotAt, slotBytes, identifierAt, unusedBytes, runType}
-use Rattle.rules.specs.Index.Walk.{walkAll, slotsOf, pick-both}
-use Rattle.rules.specs.Writing.{deleted, itemSlot}
-use Rattle.laws.proofs.Index.ListFacts.{drop-splice-part}
-use Rattle.laws.proofs.Index.Items.{slotsIn, slotsIn-cons, slotsIn-append, noFault}
-use Rattle.laws.proofs.Index.Walks.{slots-all}
+use Rattle.rules.specs.SuperBlock.Laws.{GoodGeometry, storedStamp}
+use Rattle.rules.specs.Index.{Entry, Item, entry, itemsOf, innerSlots, slotAt, slotBytes, unusedBytes, runBytes, runType, fileType, retyped}
+use Rattle.rules.specs.Index.Walk.{walkAll}
+use Rattle.rules.specs.Writing.{itemSlot}
+use Rattle.laws.proofs.Index.ListFacts.{drop-splice, drop-splice-part}
+use Rattle.laws.proofs.Index.Items.{slotsIn, slotsIn-append, noFault}
+use Rattle.laws.proofs.Index.Walks.{slots-all, walk-replace}
+use Rattle.laws.proofs.Index.Slots.{slot-at, slot-same, identifier-at, inner-slots, items-walk}
 use Rattle.laws.proofs.Index.Places.{slot-there, place-within}
-use Rattle.laws.proofs.Index.Unused.{unusedFrom, length-unusedBytes}
-use Rattle.laws.proofs.Index.Deleted.{deletedEntry, deleted-part}
-use Rattle.laws.proofs.Index.Writes.{walk-deleted, walk-cleared}
-use Rattle.laws.proofs.Images.Areas.{Bare, slot-on, inner-end}
-use Rattle.laws.proofs.Images.Inner.{Inner, inner-deleted, inner-splice, slot-same}
+use Rattle.laws.proofs.Index.Unused.{unusedFrom, unusedFrom-slots, unusedFrom-sound, walk-unusedBytes, length-unusedBytes}
+use Rattle.laws.proofs.Index.Shift.{shiftItem}
+use Rattle.laws.proofs.Index.Runs.{Storable, stored, length-runBytes, walk-runBytes}
+use Rattle.laws.proofs.Index.Retyped.{retypedEntry, retyped-part}
+use Rattle.laws.proofs.Index.Writes.{one-sound, one-slots, walk-retyped, walk-grown}
+use Rattle.laws.proofs.Images.Areas.{slot-on, inner-end}
+use Rattle.laws.proofs.Images.Inner.{Inner, inner-retyped, inner-splice}
 
--- ---- what holds of every entry, however it was read
-module _ (P : Entry → Type 0) (run : (k : ℕ) (a : List ℕ) → P (entryAt k a)) (unusable : (k : ℕ) (a : List ℕ) → P (unusableAt k a)) where
-  abbrev OfItem : Item → Type 0
-  OfItem (unused k) = Unit {0}
-  OfItem (entry e) = P e
-  OfItem (fault k) = Unit {0}
+-- after a write that keeps the length
+items-written : (s : List ℕ) (g : Geometry) (t : List ℕ) → length t ≡ length s → itemsOf t g ≡ walkAll (innerSlots g) 1 (drop (slotAt s g 1) t)
+items-written s g t long = items-walk t g ∙ rw (slot-same s t g g long refl 1)
 
-  of-item : (left k : ℕ) (a : List ℕ) → OfItem (itemAt left k a)
-  unfolding itemAt runAt
-  of-item left k a =
-      pick-both OfItem _ _ _ (pick-both OfItem _ _ _ (run k a) tt)
-      (pick-both OfItem _ _ _ (unusable k a) (pick-both OfItem _ _ _ tt tt))
-
-  of-followed : (i : Item) (rest : ℕ → List Item) → OfItem i → ((n : ℕ) → All P (entriesOf (rest n))) → All P (entriesOf (followed i rest))
-  unfolding followed entriesOf
-  of-followed (unused k) rest h r = r 1
-  of-followed (entry e) rest h r = (h, r (e .slots))
-  of-followed (fault k) rest h r = tt
-
-  of-walk : (steps left k : ℕ) (a : List ℕ) → All P (entriesOf (walk steps left k a))
-  unfolding walk entriesOf
-  of-walk zero left k a = tt
-  of-walk (suc steps) zero k a = tt
-  of-walk (suc steps) (suc left) k a =
-      of-followed (itemAt (suc left) k a) _ (of-item (suc left) k a) (λ n. of-walk steps (suc left - n) (k + n) (drop (slotBytes * n) a))
-
-  pub every-entry : (s : List ℕ) (g : Geometry) → All P (entriesOf (itemsOf s g))
-  unfolding itemsOf
-  every-entry s g = of-walk _ _ 1 _
-
-bare-run : (k : ℕ) (a : List ℕ) → Bare (entryAt k a)
-unfolding entryAt fileField
-bare-run k a f = pick-false (le 8 a lengthAt) 0 f
-
-bare-unusable : (k : ℕ) (a : List ℕ) → Bare (unusableAt k a)
-unfolding unusableAt
-bare-unusable k a f = refl
-
-pub bare-entries : (s : List ℕ) (g : Geometry) → All Bare (entriesOf (itemsOf s g))
-bare-entries s g = every-entry Bare bare-run bare-unusable s g
-
--- ---- the walk over the inner slots
--- items depend on the image from the first inner slot on
-pub items-same : (s t : List ℕ) (g h : Geometry) → length t ≡ length s → h .indexBytes ≡ g .indexBytes → drop (slotAt s g 1) t ≡ drop (slotAt s g 1) s → itemsOf t h ≡ itemsOf s g
-unfolding itemsOf innerSlots
-items-same s t g h long index same = rw (slot-same s t g h long index 1, same, index)
-
-module _ (s : List ℕ) (g : Geometry) where
-  pub items-walk : itemsOf s g ≡ walkAll (innerSlots g) 1 (drop (slotAt s g 1) s)
-  unfolding itemsOf walkAll
-  items-walk = refl
-
-  -- after a write that keeps the length
-  pub items-written : (t : List ℕ) → length t ≡ length s → itemsOf t g ≡ walkAll (innerSlots g) 1 (drop (slotAt s g 1) t)
-  unfolding itemsOf walkAll
-  items-written t long = rw (slot-same s t g g long refl 1)
-
--- ---- a write at an item
 module _ (s : List ℕ) (g : Geometry) (good : GoodGeometry (length s) g) where
   inner-room : slotBytes * innerSlots g ≤ length (drop (slotAt s g 1) s)
-  unfolding identifierAt
-  inner-room = omega (arith, length-drop (slotAt s g 1) s, inner-end s g good)
+  inner-room = omega (arith, identifier-at s, length-drop (slotAt s g 1) s, inner-end s g good)
 
-  module _ (pre : List Item) (e : Entry) (post : List Item) (here : itemsOf s g ≡ pre ++ (entry e ∷ post)) where
-    walked : walkAll (innerSlots g) 1 (drop (slotAt s g 1) s) ≡ pre ++ (entry e ∷ post)
+  -- ---- other bytes for the slots of some items
+  module _ (pre mid post : List Item) (here : itemsOf s g ≡ pre ++ (mid ++ post)) (sound : noFault (pre ++ (mid ++ post))) (bs : List ℕ) (full : length bs ≡ slotBytes * slotsIn mid) where
+    place : slotAt s g (1 + slotsIn pre) ≡ slotAt s g 1 + slotBytes * slotsIn pre
+    place = slot-on s g (slotsIn pre)
+
+    walked : walkAll (innerSlots g) 1 (drop (slotAt s g 1) s) ≡ pre ++ (mid ++ post)
     walked = sym (items-walk s g) ∙ here
 
-    entry-place : slotAt s g (e .slot) ≡ slotAt s g 1 + slotBytes * slotsIn pre
+    fits : slotsIn pre + slotsIn mid ≤ innerSlots g
+    fits =
+        let n : slotsIn (pre ++ (mid ++ post)) ≡ innerSlots g = rw walked at (slots-all (innerSlots g) 1 (drop (slotAt s g 1) s) (rw walked sound)) in
+        omega (arith, slotsIn-append pre (mid ++ post), slotsIn-append mid post)
+
+    pub replaced-inner : Inner s (splice s (slotAt s g (1 + slotsIn pre)) bs) g
+    replaced-inner = inner-splice s g (slotAt s g (1 + slotsIn pre)) (omega (arith, place)) bs (omega (arith, place, inner-end s g good, fits))
+
+    pub replaced-items : noFault (walkAll (slotsIn mid) (1 + slotsIn pre) bs) → itemsOf (splice s (slotAt s g (1 + slotsIn pre)) bs) g ≡ pre ++ (walkAll (slotsIn mid) (1 + slotsIn pre) bs ++ post)
+    replaced-items fine =
+        let n : ℕ = slotAt s g 1 in
+        let at : ℕ = slotBytes * slotsIn pre in
+        let in-place : drop n (splice s (slotAt s g (1 + slotsIn pre)) bs) ≡ splice (drop n s) at bs =
+        rw place (drop-splice-part n s at bs (omega (arith, identifier-at s, inner-end s g good))) in
+        items-written s g _ (replaced-inner .long)
+        ∙ ap (walkAll (innerSlots g) 1) in-place
+        ∙ walk-replace (innerSlots g) 1 (drop n s) bs pre mid post walked sound inner-room full fine
+
+  -- ---- a run written over unused slots
+  module _ (e : Entry) (h : Storable e) (pre post : List Item) (at : e .slot ≡ 1 + slotsIn pre) (here : itemsOf s g ≡ pre ++ (unusedFrom (e .slot) (e .slots) ++ post)) (sound : noFault (pre ++ (unusedFrom (e .slot) (e .slots) ++ post))) where
+    run-full : length (runBytes e) ≡ slotBytes * slotsIn (unusedFrom (e .slot) (e .slots))
+    run-full = length-runBytes e h ∙ rw (unusedFrom-slots (e .slot) (e .slots))
+
+    run-walk : walkAll (slotsIn (unusedFrom (e .slot) (e .slots))) (1 + slotsIn pre) (runBytes e) ≡ entry (stored e) ∷ []
+    run-walk = rw (unusedFrom-slots (e .slot) (e .slots), ← at) (walk-runBytes e h)
+
+    pub run-inner : Inner s (splice s (slotAt s g (e .slot)) (runBytes e)) g
+    run-inner = subst (λ (k : ℕ). Inner s (splice s (slotAt s g k) (runBytes e)) g) (sym at) (replaced-inner pre (unusedFrom (e .slot) (e .slots)) post here sound (runBytes e) run-full)
+
+    pub run-items : itemsOf (splice s (slotAt s g (e .slot)) (runBytes e)) g ≡ pre ++ (entry (stored e) ∷ post)
+    run-items =
+        ap (λ (k : ℕ). itemsOf (splice s (slotAt s g k) (runBytes e)) g) at
+        ∙ replaced-items pre (unusedFrom (e .slot) (e .slots)) post here sound (runBytes e) run-full (rw run-walk (one-sound (stored e)))
+        ∙ rw run-walk
+
+  module _ (pre : List Item) (e : Entry) (post : List Item) (here : itemsOf s g ≡ pre ++ (entry e ∷ post)) where
+    there : walkAll (innerSlots g) 1 (drop (slotAt s g 1) s) ≡ pre ++ (entry e ∷ post)
+    there = sym (items-walk s g) ∙ here
+
+    entry-slot : e .slot ≡ 1 + slotsIn pre
     unfolding itemSlot
-    entry-place = ap (slotAt s g) (slot-there (innerSlots g) 1 (drop (slotAt s g 1) s) pre (entry e) post walked) ∙ slot-on s g (slotsIn pre)
+    entry-slot = slot-there (innerSlots g) 1 (drop (slotAt s g 1) s) pre (entry e) post there
 
-    -- the run of a live entry deleted
-    module _ (stamp : ℤ) where
-      pub deleted-inner : Inner s (deleted s (slotAt s g (e .slot)) e stamp) g
-      deleted-inner =
-          inner-deleted s g (slotAt s g (e .slot)) (omega (arith, entry-place)) e stamp
-          (omega (arith, entry-place, inner-end s g good, place-within (innerSlots g) 1 (drop (slotAt s g 1) s) pre (entry e) post walked))
-
-      pub deleted-items : runType (e .kind) ≡ true → itemsOf (deleted s (slotAt s g (e .slot)) e stamp) g ≡ pre ++ (entry (deletedEntry e stamp) ∷ post)
-      unfolding identifierAt
-      deleted-items r =
-          let n : ℕ = slotAt s g 1 in
-          let at : ℕ = slotBytes * slotsIn pre in
-          let in-place : drop n (deleted s (slotAt s g (e .slot)) e stamp) ≡ deleted (drop n s) at e stamp =
-          rw entry-place (deleted-part n s at e stamp (omega (arith, inner-end s g good, place-within (innerSlots g) 1 (drop n s) pre (entry e) post walked))) in
-          items-written s g (deleted s (slotAt s g (e .slot)) e stamp) (deleted-inner .long)
-          ∙ ap (walkAll (innerSlots g) 1) in-place
-          ∙ walk-deleted (innerSlots g) 1 (drop n s) e stamp pre post walked inner-room r
-
-    -- the slots of a run made unused
+    -- ---- the slots of a run made unused
     module _ (sound : noFault (pre ++ (entry e ∷ post))) where
-      run-fits : slotsIn pre + e .slots ≤ innerSlots g
-      unfolding slotsOf
-      run-fits =
-          let d : List ℕ = drop (slotAt s g 1) s in
-          let n : slotsIn (pre ++ (entry e ∷ post)) ≡ innerSlots g = rw walked at (slots-all (innerSlots g) 1 d (rw walked sound)) in
-          omega (arith, slotsIn-append pre (entry e ∷ post), slotsIn-cons (entry e) post)
+      unused-full : length (unusedBytes (e .slots)) ≡ slotBytes * slotsIn (entry e ∷ [])
+      unused-full = length-unusedBytes (e .slots) ∙ rw (one-slots e)
+
+      unused-walk : walkAll (slotsIn (entry e ∷ [])) (1 + slotsIn pre) (unusedBytes (e .slots)) ≡ unusedFrom (e .slot) (e .slots)
+      unused-walk = rw (one-slots e, ← entry-slot) (walk-unusedBytes (e .slot) (e .slots))
 
       pub cleared-inner : Inner s (splice s (slotAt s g (e .slot)) (unusedBytes (e .slots))) g
-      cleared-inner =
-          inner-splice s g (slotAt s g (e .slot)) (omega (arith, entry-place)) (unusedBytes (e .slots))
-          (omega (arith, entry-place, inner-end s g good, run-fits, length-unusedBytes (e .slots)))
+      cleared-inner = rw entry-slot (replaced-inner pre (entry e ∷ []) post here sound (unusedBytes (e .slots)) unused-full)
 
       pub cleared-items : itemsOf (splice s (slotAt s g (e .slot)) (unusedBytes (e .slots))) g ≡ pre ++ (unusedFrom (e .slot) (e .slots) ++ post)
-      unfolding identifierAt
       cleared-items =
+          ap (λ (k : ℕ). itemsOf (splice s (slotAt s g k) (unusedBytes (e .slots))) g) entry-slot
+          ∙ replaced-items pre (entry e ∷ []) post here sound (unusedBytes (e .slots)) unused-full (rw unused-walk (unusedFrom-sound (e .slot) (e .slots)))
+          ∙ rw unused-walk
+
+    -- ---- its run of another type and stamp
+    module _ (kind : ℕ) (stamp : ℤ) where
+      at-entry : slotAt s g (e .slot) ≡ slotAt s g 1 + slotBytes * slotsIn pre
+      at-entry = ap (slotAt s g) entry-slot ∙ slot-on s g (slotsIn pre)
+
+      behind : slotsIn pre + 1 ≤ innerSlots g
+      behind = omega (arith, place-within (innerSlots g) 1 (drop (slotAt s g 1) s) pre (entry e) post there)
+
+      pub retyped-inner : Inner s (retyped s (slotAt s g (e .slot)) kind stamp) g
+      retyped-inner = inner-retyped s g (slotAt s g (e .slot)) (omega (arith, at-entry)) kind stamp (omega (arith, at-entry, inner-end s g good, behind))
+
+      pub retyped-items : runType (e .kind) ≡ true → runType kind ≡ true → fileType kind ≡ fileType (e .kind)
+          → itemsOf (retyped s (slotAt s g (e .slot)) kind stamp) g ≡ pre ++ (entry (retypedEntry kind (storedStamp stamp) e) ∷ post)
+      retyped-items old new alike =
           let n : ℕ = slotAt s g 1 in
           let at : ℕ = slotBytes * slotsIn pre in
-          let bs : List ℕ = unusedBytes (e .slots) in
-          let in-place : drop n (splice s (slotAt s g (e .slot)) bs) ≡ splice (drop n s) at bs =
-          rw entry-place (drop-splice-part n s at bs (omega (arith, inner-end s g good))) in
-          items-written s g (splice s (slotAt s g (e .slot)) bs) (cleared-inner .long)
+          let in-place : drop n (retyped s (slotAt s g (e .slot)) kind stamp) ≡ retyped (drop n s) at kind stamp =
+          rw at-entry (retyped-part n s at kind stamp (omega (arith, identifier-at s, inner-end s g good, behind))) in
+          items-written s g _ (retyped-inner .long)
           ∙ ap (walkAll (innerSlots g) 1) in-place
-          ∙ walk-cleared (innerSlots g) 1 (drop n s) e pre post walked sound inner-room
+          ∙ walk-retyped (innerSlots g) 1 (drop n s) e kind stamp pre post there inner-room old new alike
+
+-- ---- the index grown by a run: h has room for it in front of the slots of g, which are numbered anew
+module _ (s : List ℕ) (g h : Geometry) (low : 128 ≤ g .indexBytes) (fits : h .indexBytes ≤ length s) (e : Entry) (k : Storable e) (first : e .slot ≡ 1) (grown : h .indexBytes ≡ g .indexBytes + slotBytes * e .slots) where
+  run-behind : slotAt s h (e .slot) + length (runBytes e) ≡ slotAt s g 1
+  run-behind = omega (arith, ap (slotAt s h) first, slot-at s h 1, slot-at s g 1, length-runBytes e k)
+
+  pub grown-inner : Inner s (splice s (slotAt s h (e .slot)) (runBytes e)) h
+  grown-inner = inner-splice s h (slotAt s h (e .slot)) (omega (arith, ap (slotAt s h) first)) (runBytes e) (omega (arith, run-behind, slot-at s g 1, identifier-at s))
+
+  pub grown-items : itemsOf (splice s (slotAt s h (e .slot)) (runBytes e)) h ≡ entry (stored e) ∷ map (shiftItem (e .slots)) (itemsOf s g)
+  grown-items =
+      let a : ℕ = slotAt s h (e .slot) in
+      let inner : innerSlots h ≡ e .slots + innerSlots g = omega (arith, inner-slots h, inner-slots g) in
+      let room : a ≤ length s = omega (arith, run-behind, slot-at s g 1) in
+      items-written s h _ (grown-inner .long)
+      ∙ ap₂ (λ (j n : ℕ). walkAll (innerSlots h) j (drop (slotAt s h n) (splice s a (runBytes e)))) (sym first) (sym first)
+      ∙ ap₂ (λ (m : ℕ) (x : List ℕ). walkAll m (e .slot) x) inner (drop-splice s a (runBytes e) room ∙ ap (λ (j : ℕ). runBytes e ++ drop j s) run-behind)
+      ∙ walk-grown (innerSlots g) (drop (slotAt s g 1) s) e k
+      ∙ ap (λ (is : List Item). entry (stored e) ∷ map (shiftItem (e .slots)) is) (ap (λ (j : ℕ). walkAll (innerSlots g) j (drop (slotAt s g 1) s)) first ∙ sym (items-walk s g))

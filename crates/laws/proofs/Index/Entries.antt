@@ -1,14 +1,21 @@
--- What an entry that the walk gives says of its bytes.
-use Prim.Native.Nat.{ℕ, _+_, _≤_}
-use mathlib.Core.Path.{_≡_, sym, ap}
+-- What an entry that the walk gives says of its bytes; and what holds of each entry, however it was read, holds of all.
+use Prim.Native.Nat.{ℕ, zero, suc, _+_, _-_, _*_, _^_, _≤_, _<_}
+use mathlib.Core.Path.{_≡_, refl, sym, ap, _∙_}
 use mathlib.Core.Bool.{Bool, true, false}
-use mathlib.Core.List.{List}
+use mathlib.Core.List.{List, []}
 use mathlib.Core.Logic.{_⊎_, inl, inr}
-use lib.ListN.{length}
+use native.Mathlib.Omega.{arith}
+use lib.ListN.{length, getD, take, drop, length-take, length-drop}
+use lib.Signed.{mag}
+use Rattle.rules.specs.Lists.{All}
 use Rattle.rules.specs.Lists.Laws.{clash, pick-false, and-true}
-use Rattle.rules.specs.Fields.{byteAt, hasZero, upToZero}
+use Rattle.rules.specs.Fields.{byteAt, le, hasZero, upToZero, stampIn}
+use Rattle.rules.specs.Fields.Laws.{le-lt, upToZero-take}
+use Rattle.rules.specs.Fields.Signed.{signedOf-mag}
+use Rattle.rules.specs.SuperBlock.{Geometry}
 use Rattle.rules.specs.Names.{pathGood}
-use Rattle.rules.specs.Index.{Entry, Item, unused, entry, fault, itemAt, entryAt, unusableAt, runSlots, nameGood, nameField, runType, fileType, directoryType, fileField, typeUnusable, countAt}
+use Rattle.rules.specs.Index.{Entry, Item, unused, entry, fault, itemAt, entryAt, unusableAt, runSlots, nameGood, nameField, runType, fileType, directoryType, fileField, typeUnusable, countAt, stampAt, startAt, endAt, lengthAt, slotBytes, followed, walk, itemsOf, entriesOf, walkAll}
+use Rattle.rules.specs.Index.Walk.{pick-both}
 use Rattle.laws.proofs.Index.Items.{item-by}
 
 -- ---- one item is not another
@@ -45,12 +52,18 @@ pub record IsUnusable (k : ℕ) (a : List ℕ) (e : Entry) : Type 0 where
   pub made : e ≡ unusableAt k a
   pub kinds : byteAt a 0 ≡ typeUnusable
 
+-- what stands at a place, by cases
+pub item-cases : (left k : ℕ) (a : List ℕ) (P : Item → Type 0) → ((e : Entry) → IsRun left k a e → P (entry e)) → ((e : Entry) → IsUnusable k a e → P (entry e)) → P (unused k) → P (fault k)
+    → P (itemAt left k a)
+item-cases left k a P run unusable free bad =
+    item-by left k a P (λ r h g. run (entryAt k a) (record { made = refl; kinds = r; within = h; named = g })) (λ r u. unusable (unusableAt k a) (record { made = refl; kinds = u })) (λ r u s. free) bad
+
 pub entry-from : (left k : ℕ) (a : List ℕ) (e : Entry) → itemAt left k a ≡ entry e → IsRun left k a e ⊎ IsUnusable k a e
 entry-from left k a e =
-    item-by left k a (λ i. i ≡ entry e → IsRun left k a e ⊎ IsUnusable k a e)
-    (λ r h g q. inl (record { made = sym (entry-same _ _ q); kinds = r; within = h; named = g }))
-    (λ r u q. inr (record { made = sym (entry-same _ _ q); kinds = u }))
-    (λ r u s q. unused-entry k e q)
+    item-cases left k a (λ i. i ≡ entry e → IsRun left k a e ⊎ IsUnusable k a e)
+    (λ x h q. inl (rw (← entry-same x e q) h))
+    (λ x h q. inr (rw (← entry-same x e q) h))
+    (λ q. unused-entry k e q)
     (λ q. fault-entry k e q)
 
 -- ---- what a run's entry is
@@ -98,6 +111,10 @@ module _ (k : ℕ) (a : List ℕ) (e : Entry) (h : IsUnusable k a e) where
   unfolding unusableAt
   unusable-slots = rw (h .made)
 
+  pub unusable-bare : (e .length ≡ 0) × (e .path ≡ [])
+  unfolding unusableAt
+  unusable-bare = rw (h .made) (refl, refl)
+
 -- an entry of a run's type is a run's
 pub entry-run : (left k : ℕ) (a : List ℕ) (e : Entry) → itemAt left k a ≡ entry e → runType (e .kind) ≡ true → IsRun left k a e
 unfolding runType fileType directoryType
@@ -107,10 +124,66 @@ entry-run left k a e q t = by (entry-from left k a e q)
     by (inl h) = h
     by (inr h) = clash (sym (rw (unusable-kind k a e h) at t))
 
--- the kinds that there are
-pub entry-kind : (left k : ℕ) (a : List ℕ) (e : Entry) → itemAt left k a ≡ entry e → (runType (e .kind) ≡ true) ⊎ (e .kind ≡ typeUnusable)
-entry-kind left k a e q = by (entry-from left k a e q)
-  where
-    by : IsRun left k a e ⊎ IsUnusable k a e → (runType (e .kind) ≡ true) ⊎ (e .kind ≡ typeUnusable)
-    by (inl h) = inl (run-type left k a e h)
-    by (inr h) = inr (unusable-kind k a e h)
+-- ---- its numbers
+-- every element is a byte
+abbrev pub Bytes : List ℕ → Type 0
+Bytes s = (i : ℕ) → getD s i 0 < 256
+
+pub record Numbers (e : Entry) : Type 0 where
+  pub ends : e .end < 2 ^ 64
+  pub lengths : e .length < 2 ^ 64
+  pub stamps : mag (e .stamp) < 2 ^ 63
+
+stamp-mag : (a : List ℕ) (at : ℕ) → Bytes a → mag (stampIn a at) < 2 ^ 63
+unfolding stampIn
+stamp-mag a at b = signedOf-mag (le 8 a at) (le-lt 8 a at b)
+
+field-lt : (a : List ℕ) (at : ℕ) → Bytes a → fileField a at < 2 ^ 64
+unfolding fileField
+field-lt a at b = pick-both (λ n. n < 2 ^ 64) _ _ _ (le-lt 8 a at b) (omega arith)
+
+pub run-numbers : (left k : ℕ) (a : List ℕ) (e : Entry) → IsRun left k a e → Bytes a → Numbers e
+unfolding entryAt
+run-numbers left k a e h b = rw (h .made) (record { ends = field-lt a endAt b; lengths = field-lt a lengthAt b; stamps = stamp-mag a stampAt b })
+
+pub unusable-numbers : (k : ℕ) (a : List ℕ) (e : Entry) → IsUnusable k a e → Bytes a → Numbers e
+unfolding unusableAt
+unusable-numbers k a e h b = rw (h .made) (record { ends = le-lt 8 a endAt b; lengths = omega arith; stamps = omega arith })
+
+-- a path has no more bytes than its run's slots
+pub upToZero-length : (s : List ℕ) → length (upToZero s) ≤ length s
+upToZero-length s = omega (arith, ap length (upToZero-take s) ∙ length-take (length (upToZero s)) s)
+
+name-length : (a : List ℕ) → length (nameField a) ≤ slotBytes * runSlots a
+unfolding nameField
+name-length a = simp (length-drop, length-take) (omega arith)
+
+pub run-path-length : (left k : ℕ) (a : List ℕ) (e : Entry) → IsRun left k a e → length (e .path) ≤ slotBytes * e .slots
+unfolding entryAt
+run-path-length left k a e h = rw (h .made) (omega (arith, upToZero-length (nameField a), name-length a))
+
+-- ---- of every entry
+-- THE INDUCTION over an index: what a run's entry is, and what an unusable one is, all are
+module _ (P : Entry → Type 0) (run : (left k : ℕ) (a : List ℕ) (e : Entry) → IsRun left k a e → P e) (unusable : (k : ℕ) (a : List ℕ) (e : Entry) → IsUnusable k a e → P e) where
+  abbrev OfItem : Item → Type 0
+  OfItem (unused k) = Unit {0}
+  OfItem (entry e) = P e
+  OfItem (fault k) = Unit {0}
+
+  of-followed : (i : Item) (rest : ℕ → List Item) → OfItem i → ((n : ℕ) → All P (entriesOf (rest n))) → All P (entriesOf (followed i rest))
+  unfolding followed entriesOf
+  of-followed (unused k) rest h r = r 1
+  of-followed (entry e) rest h r = (h, r (e .slots))
+  of-followed (fault k) rest h r = tt
+
+  of-walk : (steps left k : ℕ) (a : List ℕ) → All P (entriesOf (walk steps left k a))
+  unfolding walk entriesOf
+  of-walk zero left k a = tt
+  of-walk (suc steps) zero k a = tt
+  of-walk (suc steps) (suc left) k a =
+      of-followed (itemAt (suc left) k a) _ (item-cases (suc left) k a OfItem (run (suc left) k a) (unusable k a) tt tt)
+      (λ n. of-walk steps (suc left - n) (k + n) (drop (slotBytes * n) a))
+
+  pub every-entry : (s : List ℕ) (g : Geometry) → All P (entriesOf (itemsOf s g))
+  unfolding itemsOf walkAll
+  every-entry s g = of-walk _ _ 1 _

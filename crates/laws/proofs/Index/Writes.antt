@@ -1,4 +1,4 @@
--- What each write to the index leaves of the walk: a run written, a run deleted, a run cleared, the index grown.
+-- What two writes to the index leave of the walk: a run of another type and stamp, and the index grown by a run.
 use Prim.Native.Nat.{ℕ, _+_, _-_, _*_, _≤_, _<_}
 use mathlib.Core.Path.{_≡_, refl, ap, _∙_}
 use mathlib.Core.Bool.{true}
@@ -8,71 +8,48 @@ use native.Mathlib.Nat.{add-zero}
 use lib.ListN.{length, drop, length-drop}
 use lib.IntN.{ℤ}
 use Rattle.rules.specs.Lists.{all}
-use Rattle.rules.specs.Fields.{splice}
-use Rattle.rules.specs.Index.{Entry, Item, entry, isFault, runType, runBytes, unusedBytes, slotBytes}
+use Rattle.rules.specs.SuperBlock.Laws.{storedStamp}
+use Rattle.rules.specs.Index.{Entry, Item, entry, itemAt, isFault, runType, fileType, runBytes, slotBytes, retyped}
 use Rattle.rules.specs.Index.Walk.{walkAll, slotsOf, slots-pos}
-use Rattle.rules.specs.Writing.{deleted, itemSlot}
+use Rattle.laws.proofs.Lists.Spans.{but-drop}
 use Rattle.laws.proofs.Index.Items.{slotsIn, slotsIn-nil, slotsIn-cons, noFault}
-use Rattle.laws.proofs.Index.Walks.{Split, walk-on, walk-rest, walk-kept, walk-append, walk-split, walk-replace}
-use Rattle.laws.proofs.Index.Places.{before-sound, item-there, slot-there, place-within}
-use Rattle.laws.proofs.Index.Unused.{unusedFrom, unusedFrom-slots, unusedFrom-sound, walk-unusedBytes, length-unusedBytes}
+use Rattle.laws.proofs.Index.Walks.{Split, walk-on, walk-rest, walk-kept, walk-append, walk-split}
+use Rattle.laws.proofs.Index.Places.{before-sound, item-there, place-within}
 use Rattle.laws.proofs.Index.Shift.{shiftItem, walk-shift}
 use Rattle.laws.proofs.Index.Runs.{Storable, stored, walk-runBytes, length-runBytes}
-use Rattle.laws.proofs.Index.Deleted.{deletedEntry, item-deleted, take-deleted, drop-deleted, deleted-part}
+use Rattle.laws.proofs.Index.Retyped.{retypedEntry, item-retyped, retyped-written, retyped-part}
 
 -- an entry alone
-one-sound : (e : Entry) → noFault (entry e ∷ [])
+pub one-sound : (e : Entry) → noFault (entry e ∷ [])
 unfolding all isFault
 one-sound e = refl
 
-one-slots : (e : Entry) → slotsIn (entry e ∷ []) ≡ e .slots
+pub one-slots : (e : Entry) → slotsIn (entry e ∷ []) ≡ e .slots
 unfolding slotsOf
 one-slots e = slotsIn-cons (entry e) [] ∙ omega (arith, slotsIn-nil)
 
--- ---- a run written to unused slots
-pub walk-created : (left k : ℕ) (a : List ℕ) (e : Entry) (pre post : List Item)
-    → walkAll left k a ≡ pre ++ (unusedFrom (e .slot) (e .slots) ++ post) → noFault (pre ++ (unusedFrom (e .slot) (e .slots) ++ post)) → slotBytes * left ≤ length a
-    → Storable e → e .slot ≡ k + slotsIn pre
-    → walkAll left k (splice a (slotBytes * slotsIn pre) (runBytes e)) ≡ pre ++ (entry (stored e) ∷ post)
-walk-created left k a e pre post q s room h place =
-    let m : slotsIn (unusedFrom (e .slot) (e .slots)) ≡ e .slots = unusedFrom-slots (e .slot) (e .slots) in
-    let w : walkAll (slotsIn (unusedFrom (e .slot) (e .slots))) (k + slotsIn pre) (runBytes e) ≡ entry (stored e) ∷ [] = rw (m, ← place) (walk-runBytes e h) in
-    walk-replace left k a (runBytes e) pre (unusedFrom (e .slot) (e .slots)) post q s room (rw m (length-runBytes e h)) (rw w (one-sound (stored e)))
-    ∙ rw w
-
--- ---- a run that becomes unused slots
-pub walk-cleared : (left k : ℕ) (a : List ℕ) (e : Entry) (pre post : List Item)
-    → walkAll left k a ≡ pre ++ (entry e ∷ post) → noFault (pre ++ (entry e ∷ post)) → slotBytes * left ≤ length a
-    → walkAll left k (splice a (slotBytes * slotsIn pre) (unusedBytes (e .slots))) ≡ pre ++ (unusedFrom (e .slot) (e .slots) ++ post)
-unfolding itemSlot
-walk-cleared left k a e pre post q s room =
-    let place : e .slot ≡ k + slotsIn pre = slot-there left k a pre (entry e) post q in
-    let w : walkAll (slotsIn (entry e ∷ [])) (k + slotsIn pre) (unusedBytes (e .slots)) ≡ unusedFrom (e .slot) (e .slots) =
-    rw (one-slots e, ← place) (walk-unusedBytes (e .slot) (e .slots)) in
-    walk-replace left k a (unusedBytes (e .slots)) pre (entry e ∷ []) post q s room (rw (one-slots e) (length-unusedBytes (e .slots))) (rw w (unusedFrom-sound (e .slot) (e .slots)))
-    ∙ rw w
-
--- ---- a run deleted
-pub walk-deleted : (left k : ℕ) (a : List ℕ) (e : Entry) (stamp : ℤ) (pre post : List Item)
-    → walkAll left k a ≡ pre ++ (entry e ∷ post) → slotBytes * left ≤ length a → runType (e .kind) ≡ true
-    → walkAll left k (deleted a (slotBytes * slotsIn pre) e stamp) ≡ pre ++ (entry (deletedEntry e stamp) ∷ post)
-unfolding deletedEntry isFault slotsOf
-walk-deleted left k a e stamp pre post q room t =
+-- ---- a run of another type and stamp
+pub walk-retyped : (left k : ℕ) (a : List ℕ) (e : Entry) (kind : ℕ) (stamp : ℤ) (pre post : List Item)
+    → walkAll left k a ≡ pre ++ (entry e ∷ post) → slotBytes * left ≤ length a → runType (e .kind) ≡ true → runType kind ≡ true → fileType kind ≡ fileType (e .kind)
+    → walkAll left k (retyped a (slotBytes * slotsIn pre) kind stamp) ≡ pre ++ (entry (retypedEntry kind (storedStamp stamp) e) ∷ post)
+unfolding retypedEntry isFault slotsOf
+walk-retyped left k a e kind stamp pre post q room old new alike =
     let p : ℕ = slotsIn pre in
     let d : List ℕ = drop (slotBytes * p) a in
+    let f : Entry = retypedEntry kind (storedStamp stamp) e in
     let sound : noFault pre = before-sound left k a pre (entry e) post q in
     let h : Split left k a pre (entry e ∷ post) = walk-split left k a pre (entry e ∷ post) q sound in
     let more : p < left = place-within left k a pre (entry e) post q in
-    let fits : slotBytes * p + 10 ≤ length a = omega arith in
+    let there : itemAt (left - p) (k + p) d ≡ entry e = item-there left k a pre (entry e) post q in
     let left-room : slotBytes * (left - p) ≤ length d = omega (arith, length-drop (slotBytes * p) a) in
-    let pos : 1 ≤ e .slots = rw (item-there left k a pre (entry e) post q) at (slots-pos (left - p) (k + p) d) in
-    let part : drop (slotBytes * p) (deleted a (slotBytes * p) e stamp) ≡ deleted d 0 e stamp = rw add-zero at (deleted-part (slotBytes * p) a 0 e stamp (omega arith)) in
-    let behind : drop (slotBytes * e .slots) (deleted d 0 e stamp) ≡ drop (slotBytes * e .slots) d = drop-deleted d 0 e stamp (omega arith) (slotBytes * e .slots) (omega arith) in
-    walk-kept left k a (deleted a (slotBytes * p) e stamp) pre (entry e ∷ post) q sound (take-deleted a (slotBytes * p) e stamp fits (slotBytes * p) (omega arith))
+    let pos : 1 ≤ e .slots = rw there at (slots-pos (left - p) (k + p) d) in
+    let part : drop (slotBytes * p) (retyped a (slotBytes * p) kind stamp) ≡ retyped d 0 kind stamp = rw add-zero at (retyped-part (slotBytes * p) a 0 kind stamp (omega arith)) in
+    let behind : drop (slotBytes * e .slots) (retyped d 0 kind stamp) ≡ drop (slotBytes * e .slots) d = but-drop (retyped-written d 0 kind stamp (omega arith)) (slotBytes * e .slots) (omega arith) in
+    walk-kept left k a (retyped a (slotBytes * p) kind stamp) pre (entry e ∷ post) q sound (retyped-written a (slotBytes * p) kind stamp (omega arith) .front)
     ∙ ap (λ (is : List Item). pre ++ is)
     (ap (walkAll (left - p) (k + p)) part
-    ∙ walk-on (left - p) (k + p) (deleted d 0 e stamp) (entry (deletedEntry e stamp)) (omega arith) (item-deleted (left - p) (k + p) d e stamp (omega arith) left-room (item-there left k a pre (entry e) post q) t) refl
-    ∙ ap (λ (is : List Item). entry (deletedEntry e stamp) ∷ is) (ap (walkAll (left - p - e .slots) (k + p + e .slots)) behind ∙ walk-rest (left - p) (k + p) d (entry e) post (h .back) refl))
+    ∙ walk-on (left - p) (k + p) (retyped d 0 kind stamp) (entry f) (omega arith) (item-retyped (left - p) (k + p) d e kind stamp (omega arith) left-room there old new alike) refl
+    ∙ ap (λ (is : List Item). entry f ∷ is) (ap (walkAll (left - p - e .slots) (k + p + e .slots)) behind ∙ walk-rest (left - p) (k + p) d (entry e) post (h .back) refl))
 
 -- ---- the index grown by a run: the slots behind it are numbered anew
 pub walk-grown : (left : ℕ) (a : List ℕ) (e : Entry) → Storable e

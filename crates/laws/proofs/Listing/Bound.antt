@@ -5,19 +5,22 @@ use mathlib.Core.List.{List, [], _∷_}
 use mathlib.Core.Path.{_≡_, refl, ap, _∙_}
 use native.Mathlib.Omega.{arith}
 use lib.Dec.{leb}
-use lib.ListN.{length, length-append, length-take, drop}
+use lib.ListN.{length, length-append, drop}
 use borrow.Author.Tests.{leb-true}
-use Rattle.rules.specs.Lists.{part, only, sum}
+use Rattle.rules.specs.Lists.{only, sum}
 use Rattle.rules.specs.Dates.Text.{decimal-length}
-use Rattle.rules.specs.Index.{Entry, identifierAt, innerSlots, itemAt, itemsOf, slotAt, volumeField, volumeName, fileType}
+use Rattle.rules.specs.Index.{Entry, innerSlots, itemAt, itemsOf, slotAt, fileType, walkAll}
 use Rattle.rules.specs.Regions.{blocksOf, heldBlocks}
 use Rattle.rules.specs.Paths.{isLive}
 use Rattle.rules.specs.Refusals.{Verdict, refused, accepted, need, andThen, Volume, entries, judge, judgeGeometry, judgeIndex}
 use Rattle.rules.specs.Refusals.Laws.{Opens, judge-opens, need-accepted}
 use Rattle.rules.specs.Listing.{lineOf, linesOf, countLine, refusedLine, volumeText, listingOf}
 use Rattle.laws.proofs.Lists.Parts.{sum-parts}
-use Rattle.laws.proofs.Listing.Weights.{Bytes, bytes-drop, Weighs, sum-walk}
-use Rattle.laws.proofs.Listing.Lines.{perSlot, upToZero-length, line-weighs, one-weighs, blocks-weigh}
+use Rattle.laws.proofs.Index.Entries.{Bytes}
+use Rattle.laws.proofs.Index.Slots.{inner-slots}
+use Rattle.laws.proofs.Index.Ends.{name-fits}
+use Rattle.laws.proofs.Listing.Weights.{bytes-drop, Weighs, sum-walk}
+use Rattle.laws.proofs.Listing.Lines.{perSlot, line-weighs, one-weighs, blocks-weigh}
 
 -- ---- lengths as sums
 lines-sum : (es : List Entry) → length (linesOf es) ≡ sum (λ e. length (lineOf e)) es
@@ -61,19 +64,14 @@ unfolding volumeText refusedLine
 refused-fits s n h = simp length-append (omega (arith, decimal-length 1 n (omega arith) h))
 
 -- ---- an image that opens
-name-fits : (s : List ℕ) → length (volumeName s) ≤ 52
-unfolding volumeName volumeField part
-name-fits s = omega (arith, upToZero-length (volumeField s), length-take 52 (drop (identifierAt s + 12) s))
-
 inner-few : (s : List ℕ) (v : Volume) → Opens s v → length s ≤ 65_536 → innerSlots (v .geometry) ≤ 1022
-unfolding innerSlots
-inner-few s v o h = omega (arith, o .geometry-good .index-fits)
+inner-few s v o h = omega (arith, inner-slots (v .geometry), o .geometry-good .index-fits)
 
 module _ (s : List ℕ) (v : Volume) (bytes : Bytes s) (o : Opens s v) (small : length s ≤ 65_536) where
   -- a sum over the entries that stand in the index
   sum-entries : (f : Entry → ℕ) (m : ℕ) → ((left k : ℕ) (a : List ℕ) → 0 < left → Bytes a → Weighs f m left (itemAt left k a))
       → sum f (entries v) ≤ m * innerSlots (v .geometry)
-  unfolding itemsOf
+  unfolding itemsOf walkAll
   sum-entries f m each =
       rw (o .items-are)
       (sum-walk f m each (innerSlots (v .geometry)) (innerSlots (v .geometry)) 1 (drop (slotAt s (v .geometry) 1) s) (bytes-drop (slotAt s (v .geometry) 1) s bytes))

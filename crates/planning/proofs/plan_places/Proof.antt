@@ -7,9 +7,8 @@ use lib.ListN.{length}
 use Rattle.rules.specs.SuperBlock.{Geometry, restamp}
 use Rattle.rules.specs.Fields.{signedOf}
 use Rattle.rules.specs.Index.{continuing}
-use Rattle.rules.specs.Writing.{placeRun, placeFile}
+use Rattle.rules.specs.Writing.{placeRun, placeFile, newSlots, newBlocks}
 use Rattle.rules.specs.Refusals.{entries}
-use Rattle.after.proofs.Create.Inverted.{newSlots, newBlocks}
 use Rattle.geometry.specs.View.{geometryView}
 use Rattle.judging.specs.View.{volumeOf, opened-super, opened-walks, opened-entries}
 use Rattle.planning.specs.Places.{run-says, file-says}

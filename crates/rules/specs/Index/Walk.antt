@@ -6,20 +6,16 @@ use mathlib.Core.List.{List, [], _∷_, _++_}
 use native.Mathlib.Omega.{arith}
 use lib.ListN.{length, getD, take, drop}
 use lib.Dec.{eqb}
-use Rattle.rules.specs.Lists.{pick, all}
-use Rattle.rules.specs.Fields.{byteAt}
-use Rattle.rules.specs.Index.{Entry, Item, unused, entry, fault, itemAt, runAt, entryAt, unusableAt, followed, walk, entriesOf, isFault, runSlots, slotBytes, runType, strayType, nameGood, nameField}
-use Rattle.rules.specs.Lists.Laws.{and-true}
+use borrow.Author.Tests.{ne-eqb}
+use Rattle.rules.specs.Lists.{pick}
+use Rattle.rules.specs.Index.{Entry, Item, unused, entry, fault, itemAt, runAt, entryAt, unusableAt, followed, walk, WalkEquation, StepsSuffice, runSlots, slotBytes}
+unfoldable pub use Rattle.rules.specs.Index.{walkAll}
 
 -- the slots of an item
 unfoldable pub slotsOf : Item → ℕ
 slotsOf (unused k) = 1
 slotsOf (entry e) = e .slots
 slotsOf (fault k) = 1
-
--- the items of `left` slots from slot k on, where `a` starts
-unfoldable pub walkAll : ℕ → ℕ → List ℕ → List Item
-walkAll left k a = walk left left k a
 
 pub pick-both : {A : Type 0} (P : A → Type 0) (b : Bool) (x y : A) → P x → P y → P (pick b x y)
 unfolding pick
@@ -64,6 +60,10 @@ enough (suc f) (suc g) (suc left) k a p q =
     let h : 1 ≤ n = slots-pos (suc left) k a in
     followed-ext (itemAt (suc left) k a) _ _ (enough f g (suc left - n) (k + n) (drop (slotBytes * n) a) (omega arith) (omega arith))
 
+pub steps-suffice : StepsSuffice
+unfolding walkAll
+steps-suffice steps left k a h = enough steps left left k a h (omega arith)
+
 -- ---- a step
 pub walk-none : (k : ℕ) (a : List ℕ) → walkAll 0 k a ≡ []
 unfolding walkAll walk
@@ -76,7 +76,12 @@ walk-step zero k a h = absurd (omega arith)
 walk-step (suc left) k a h =
     let n : ℕ = slotsOf (itemAt (suc left) k a) in
     let p : 1 ≤ n = slots-pos (suc left) k a in
-    followed-ext (itemAt (suc left) k a) _ _ (enough left (suc left - n) (suc left - n) (k + n) (drop (slotBytes * n) a) (omega arith) (omega arith))
+    followed-ext (itemAt (suc left) k a) _ _ (steps-suffice left (suc left - n) (k + n) (drop (slotBytes * n) a) (omega arith))
+
+pub walk-equation : WalkEquation
+unfolding pick
+walk-equation zero k a = walk-none k a
+walk-equation (suc left) k a = rw (ne-eqb (suc left) 0 (λ e. absurd (omega arith))) (walk-step (suc left) k a (omega arith))
 
 -- by what stands at the slot
 module _ (left k : ℕ) (a : List ℕ) (more : 0 < left) where

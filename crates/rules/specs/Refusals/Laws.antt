@@ -14,7 +14,7 @@ use Rattle.rules.specs.Lists.Laws.{and-true, eqList-refl, part-part, len
 use Rattle.rules.specs.Fields.{splice, stampBytes}
 use Rattle.rules.specs.Fields.Laws.{length-leBytes, length-splice, part-splice-in}
 use Rattle.rules.specs.SuperBlock.{Geometry, geometryOf, geometryGood, lengthGood, blockBytes, blockLength, superBlockAt, magicAt, sealedLength, magic, version10, superBlockBytes, putSizes}
-use Rattle.rules.specs.SuperBlock.Laws.{GoodGeometry, geometry-good, good-geometry, asStored, length-least, good-fit, good-stored, length-super, super-frame, SameBlocks, sealed-same, sealed-part, geometry-same, sealed-checks, written-geometry, written-version, written-magic, written-sealed, length-putSizes, putSizes-after, putSizes-geometry}
+use Rattle.rules.specs.SuperBlock.Laws.{GoodGeometry, geometry-good, good-geometry, asStored, length-least, good-fit, good-stored, length-super, super-frame, SameSealed, sealed-same, sealed-part, geometry-same, sealed-checks, written-geometry, written-version, written-magic, written-sealed, length-putSizes, putSizes-after, putSizes-geometry}
 use Rattle.rules.specs.Names.{volumeTextGood, volumeNameGood}
 use Rattle.rules.specs.Index.{Item, itemsOf, entriesOf, indexSound, typeMarker, typeIdentifier, slotBytes, markerBytes, identifierBytes}
 use Rattle.rules.specs.Regions.{regionsSound}
@@ -290,7 +290,7 @@ module _ (t : List ℕ) (g : Geometry) (here : part t superBlockAt 42 ≡ superB
   }
 
 -- and so is one whose sizes were written
-pub sizes-super : (s : List ℕ) (g h : Geometry) → GoodSuper s h → SameBlocks g h → GoodGeometry (length s) g → GoodSuper (putSizes s g) (asStored g)
+pub sizes-super : (s : List ℕ) (g h : Geometry) → GoodSuper s h → SameSealed g h → GoodGeometry (length s) g → GoodSuper (putSizes s g) (asStored g)
 sizes-super s g h o same good =
     let room : superBlockAt + 42 ≤ length s = omega (arith, o .length-low) in
     let e = putSizes-after s g room magicAt 18 (omega arith) in

@@ -12,7 +12,7 @@ use borrow.Author.Tests.{leb-true, leb-false, ltb-true, lt-ltb, le-leb, not-true
 use Rattle.rules.specs.Lists.{firstIf}
 use Rattle.rules.specs.Lists.Laws.{clash, and-true, and-both, or-false}
 use Rattle.rules.specs.Index.{Entry}
-use Rattle.rules.specs.Regions.{holds, apart, busy, runFree, lowestFrom, lowestFree, blocksNeeded}
+use Rattle.rules.specs.Regions.{holds, apart, busy, runFree, lowestFrom, lowestFree, LowestRun, blocksNeeded}
 
 -- ---- the blocks of a region
 pub holds-says : (b : ℕ) (e : Entry) → holds b e ≡ true → (e .start ≤ b) × (b < e .end)
@@ -87,16 +87,10 @@ run-holds es b zero h = refl
 run-holds es b (suc k) h = rw (h b (omega arith) (omega arith)) (run-holds es (suc b) k (λ u p q. h u (omega arith) (omega arith)))
 
 -- ---- the lowest free run
--- what the answer says: a run that is free, and no lower one is; or no run is free
-unfoldable pub Told : List Entry → ℕ → ℕ → ℕ → Option ℕ → Type 0
-Told es k low ceiling none = (u : ℕ) → low ≤ u → u + k ≤ ceiling → runFree es u k ≡ false
-Told es k low ceiling (some b) =
-    (low ≤ b) × (b + k ≤ ceiling) × (runFree es b k ≡ true) × ((u : ℕ) → low ≤ u → u < b → runFree es u k ≡ false)
-
 -- a turn: the test at `low`, and the answer from the next start on
-turn : (es : List Entry) (k low ceiling : ℕ) (t : Bool) → runFree es low k ≡ t → low + k ≤ ceiling → (r : Option ℕ) → Told es k (suc low) ceiling r
-    → Told es k low ceiling (firstIf t low r)
-unfolding Told firstIf
+turn : (es : List Entry) (k low ceiling : ℕ) (t : Bool) → runFree es low k ≡ t → low + k ≤ ceiling → (r : Option ℕ) → LowestRun es k (suc low) ceiling r
+    → LowestRun es k low ceiling (firstIf t low r)
+unfolding LowestRun firstIf
 turn es k low ceiling true e m r h = (omega arith, m, e, λ u p q. absurd (omega arith))
 turn es k low ceiling false e m none h =
     λ u p q. from (λ v. runFree es v k ≡ false) low u p e (λ g. h u g q) (decLt low u)
@@ -107,34 +101,34 @@ turn es k low ceiling false e m (some b) h = (
   λ u p q. from (λ v. runFree es v k ≡ false) low u p e (λ g. h .3 u g q) (decLt low u),
 )
 
-search-told : (es : List Entry) (k ceiling n low : ℕ) → n ≡ ceiling + 1 - (low + k) → Told es k low ceiling (lowestFrom es k n low)
-unfolding lowestFrom Told
-search-told es k ceiling zero low e = λ u p q. absurd (omega arith)
-search-told es k ceiling (suc n) low e =
-    turn es k low ceiling (runFree es low k) refl (omega arith) (lowestFrom es k n (suc low)) (search-told es k ceiling n (suc low) (omega arith))
+search-run : (es : List Entry) (k ceiling n low : ℕ) → n ≡ ceiling + 1 - (low + k) → LowestRun es k low ceiling (lowestFrom es k n low)
+unfolding lowestFrom LowestRun
+search-run es k ceiling zero low e = λ u p q. absurd (omega arith)
+search-run es k ceiling (suc n) low e =
+    turn es k low ceiling (runFree es low k) refl (omega arith) (lowestFrom es k n (suc low)) (search-run es k ceiling n (suc low) (omega arith))
 
-pub lowest-told : (es : List Entry) (k low ceiling : ℕ) → Told es k low ceiling (lowestFree es k low ceiling)
+pub lowest-run : (es : List Entry) (k low ceiling : ℕ) → LowestRun es k low ceiling (lowestFree es k low ceiling)
 unfolding lowestFree
-lowest-told es k low ceiling = search-told es k ceiling (ceiling + 1 - (low + k)) low refl
+lowest-run es k low ceiling = search-run es k ceiling (ceiling + 1 - (low + k)) low refl
 
--- one answer only is told so
-told-same : (es : List Entry) (k low ceiling : ℕ) (r q : Option ℕ) → Told es k low ceiling r → Told es k low ceiling q → r ≡ q
-unfolding Told
-told-same es k low ceiling none none h g = refl
-told-same es k low ceiling none (some c) h g = clash (sym (g .2) ∙ h c (g .0) (g .1))
-told-same es k low ceiling (some b) none h g = clash (sym (h .2) ∙ g b (h .0) (h .1))
-told-same es k low ceiling (some b) (some c) h g = by (decLt b c) (decLt c b)
+-- one answer only is so
+run-one : (es : List Entry) (k low ceiling : ℕ) (r q : Option ℕ) → LowestRun es k low ceiling r → LowestRun es k low ceiling q → r ≡ q
+unfolding LowestRun
+run-one es k low ceiling none none h g = refl
+run-one es k low ceiling none (some c) h g = clash (sym (g .2) ∙ h c (g .0) (g .1))
+run-one es k low ceiling (some b) none h g = clash (sym (h .2) ∙ g b (h .0) (h .1))
+run-one es k low ceiling (some b) (some c) h g = by (decLt b c) (decLt c b)
   where
     by : Dec (b < c) → Dec (c < b) → _≡_ {A = Option ℕ} (some b) (some c)
     by (yes l) m = clash (sym (h .2) ∙ g .3 b (h .0) l)
     by (no l) (yes m) = clash (sym (g .2) ∙ h .3 c (g .0) m)
     by (no l) (no m) = ap {B = Option ℕ} some (omega arith)
 
-pub told-lowest : (es : List Entry) (k low ceiling : ℕ) (r : Option ℕ) → Told es k low ceiling r → lowestFree es k low ceiling ≡ r
-told-lowest es k low ceiling r h = told-same es k low ceiling (lowestFree es k low ceiling) r (lowest-told es k low ceiling) h
+pub run-lowest : (es : List Entry) (k low ceiling : ℕ) (r : Option ℕ) → LowestRun es k low ceiling r → lowestFree es k low ceiling ≡ r
+run-lowest es k low ceiling r h = run-one es k low ceiling (lowestFree es k low ceiling) r (lowest-run es k low ceiling) h
 
-pub lowest-is : (es : List Entry) (k low ceiling : ℕ) (r : Option ℕ) → lowestFree es k low ceiling ≡ r → Told es k low ceiling r
-lowest-is es k low ceiling r e = rw e at (lowest-told es k low ceiling)
+pub lowest-is : (es : List Entry) (k low ceiling : ℕ) (r : Option ℕ) → lowestFree es k low ceiling ≡ r → LowestRun es k low ceiling r
+lowest-is es k low ceiling r e = rw e at (lowest-run es k low ceiling)
 
 -- it depends on which blocks are busy, and on nothing else
 pub run-ext : (es fs : List Entry) → ((b : ℕ) → busy es b ≡ busy fs b) → (b k : ℕ) → runFree es b k ≡ runFree fs b k

@@ -10,16 +10,17 @@ use lib.Pow.{pow-mono, pow-pos}
 use lib.ListN.{length, take, length-append}
 use lib.Seq.{take-all}
 use lib.Dec.{eqb}
-use lib.IntN.{ℤ}
+use lib.IntN.{ℤ, pos, negsuc}
 use lib.Signed.{mag}
 use borrow.Author.Tests.{le-leb, leb-true, eq-eqb, eqb-true}
 use Rattle.rules.specs.Lists.{pick, part}
 use Rattle.rules.specs.Lists.Laws.{pick-true, pick-false, and-true, part-part, part-append}
 use Rattle.rules.specs.Fields.{byteAt, le, leBytes, splice, stampIn, stampBytes, signedOf, bitsOf, checksumOf, checks}
 use Rattle.rules.specs.Fields.Laws.{le-1, length-leBytes, le-leBytes, length-splice, byte-le, le-part, le-append-before, le-append-after, le-between, part-splice-before, part-splice-after, part-splice-from, checks-sealed}
-use Rattle.rules.specs.Fields.Signed.{bitsOf-lt, signed-bits}
+use Rattle.rules.specs.Fields.Signed.{bitsOf-lt, signedOf-mag, signed-bits, bits-signed}
+use Rattle.rules.specs.Dates.{floorMod}
 use Rattle.rules.specs.Index.Walk.{pick-both}
-use Rattle.rules.specs.SuperBlock.{Geometry, geometryOf, blockBytes, blockLength, ceilingBlock, dataEnd, indexGood, geometryGood, fieldOf, growIndex, withIndex, withData, extendData, trimData, withStamp, restamp, sizesBytes, summedBytes, superBlockBytes, putSizes, superBlockAt, magic, magicAt, versionAt, blockFieldAt, sealedLength}
+use Rattle.rules.specs.SuperBlock.{Geometry, geometryOf, blockBytes, blockLength, ceilingBlock, dataEnd, indexGood, geometryGood, fieldOf, growIndex, withIndex, withData, extendData, trimData, withStamp, restamp, sizesBytes, summedBytes, superBlockBytes, putSizes, superBlockAt, magic, magicAt, versionAt, blockFieldAt, sealedLength, mostIndexBytes}
 
 -- ---- a good geometry
 pub record GoodGeometry (n : ℕ) (g : Geometry) : Type 0 where
@@ -29,7 +30,7 @@ pub record GoodGeometry (n : ℕ) (g : Geometry) : Type 0 where
   pub reserved-covers : 512 ≤ g .reserved * blockLength g
   pub reserved-low : g .reserved + 2 ≤ g .total
   pub index-low : 128 ≤ g .indexBytes
-  pub index-high : g .indexBytes ≤ 262_144
+  pub index-high : g .indexBytes ≤ mostIndexBytes
   pub index-slots : g .indexBytes % 64 ≡ 0
   pub index-fits : g .indexBytes ≤ n
   pub data-fits : dataEnd g ≤ ceilingBlock n g
@@ -140,12 +141,27 @@ unfolding superBlockBytes
 length-super g = simp (length-append, length-sizes, length-summed)
 
 -- ---- a stamp as it is stored
+bits-modulo : (z : ℤ) → bitsOf z ≡ floorMod z (2 ^ 64)
+unfolding bitsOf floorMod
+bits-modulo (pos n) = refl
+bits-modulo (negsuc n) = refl
+
 unfoldable pub storedStamp : ℤ → ℤ
 storedStamp z = stampIn (stampBytes z) 0
 
-pub stored-stamp : (z : ℤ) → mag z < 2 ^ 63 → storedStamp z ≡ z
+stored-bits : (z : ℤ) → storedStamp z ≡ signedOf (bitsOf z)
 unfolding storedStamp stampIn stampBytes
-stored-stamp z h = ap signedOf (le-leBytes 8 (bitsOf z) (bitsOf-lt z h)) ∙ signed-bits z h
+stored-bits z = ap signedOf (le-leBytes 8 (bitsOf z) (bitsOf-lt z))
+
+-- a number of 64 bits is read as it was written
+pub stored-stamp : (z : ℤ) → mag z < 2 ^ 63 → storedStamp z ≡ z
+stored-stamp z h = stored-bits z ∙ signed-bits z h
+
+-- and any other as the number of 64 bits that is the same modulo 2 ^ 64
+pub stored-modulo : (z : ℤ) → (mag (storedStamp z) < 2 ^ 63) × (floorMod (storedStamp z) (2 ^ 64) ≡ floorMod z (2 ^ 64))
+stored-modulo z =
+    rw (stored-bits z)
+    (signedOf-mag (bitsOf z) (bitsOf-lt z), sym (bits-modulo (signedOf (bitsOf z))) ∙ bits-signed (bitsOf z) (bitsOf-lt z) ∙ bits-modulo z)
 
 -- the geometry that is read of one that was written
 unfoldable pub asStored : Geometry → Geometry
@@ -293,43 +309,43 @@ module _ (t : List ℕ) (g : Geometry) (here : part t superBlockAt 42 ≡ superB
   written-magic = part-rest t g (sealedBytes g) behind 3 (omega arith)
 
 -- ---- what is read of it depends on its bytes alone
--- the fields that no call changes but a format
-pub record SameBlocks (g h : Geometry) : Type 0 where
+-- the fields that the checksum seals: no call changes them but a format
+pub record SameSealed (g h : Geometry) : Type 0 where
   pub version-same : g .version ≡ h .version
   pub total-same : g .total ≡ h .total
   pub reserved-same : g .reserved ≡ h .reserved
   pub field-same : g .blockField ≡ h .blockField
 
-pub same-self : (g : Geometry) → SameBlocks g g
+pub same-self : (g : Geometry) → SameSealed g g
 same-self g = record { version-same = refl; total-same = refl; reserved-same = refl; field-same = refl }
 
 -- they stay where the sizes and the stamp change
-module _ (g h : Geometry) (same : SameBlocks g h) where
+module _ (g h : Geometry) (same : SameSealed g h) where
   same-kept : (z : ℤ) (d i : ℕ)
-      → SameBlocks (record { stamp = z; dataBlocks = d; indexBytes = i; version = g .version; total = g .total; reserved = g .reserved; blockField = g .blockField }) h
+      → SameSealed (record { stamp = z; dataBlocks = d; indexBytes = i; version = g .version; total = g .total; reserved = g .reserved; blockField = g .blockField }) h
   same-kept z d i = record { version-same = same .version-same; total-same = same .total-same; reserved-same = same .reserved-same; field-same = same .field-same }
 
-  pub same-grow : (bytes : ℕ) → SameBlocks (growIndex g bytes) h
+  pub same-grow : (bytes : ℕ) → SameSealed (growIndex g bytes) h
   unfolding growIndex withIndex
   same-grow bytes = same-kept _ _ _
 
-  pub same-extend : (end : ℕ) → SameBlocks (extendData g end) h
+  pub same-extend : (end : ℕ) → SameSealed (extendData g end) h
   unfolding extendData withData
   same-extend end = same-kept _ _ _
 
-  pub same-trim : (end : ℕ) → SameBlocks (trimData g end) h
+  pub same-trim : (end : ℕ) → SameSealed (trimData g end) h
   unfolding trimData withData
   same-trim end = same-kept _ _ _
 
-  pub same-restamp : (old : Geometry) (z : ℤ) → SameBlocks (restamp old g z) h
+  pub same-restamp : (old : Geometry) (z : ℤ) → SameSealed (restamp old g z) h
   unfolding restamp withStamp
-  same-restamp old z = pick-both (λ k. SameBlocks k h) _ g _ same (same-kept _ _ _)
+  same-restamp old z = pick-both (λ k. SameSealed k h) _ g _ same (same-kept _ _ _)
 
 -- a number in a part that two images share
 shared : (w : ℕ) (s t : List ℕ) (at n o : ℕ) → part s at n ≡ part t at n → o + w ≤ n → le w s (at + o) ≡ le w t (at + o)
 shared w s t at n o e h = sym (le-part w s at n o h) ∙ ap (λ (p : List ℕ). le w p o) e ∙ le-part w t at n o h
 
-pub sealed-same : (s t : List ℕ) → part s magicAt sealedLength ≡ part t magicAt sealedLength → SameBlocks (geometryOf s) (geometryOf t)
+pub sealed-same : (s t : List ℕ) → part s magicAt sealedLength ≡ part t magicAt sealedLength → SameSealed (geometryOf s) (geometryOf t)
 unfolding geometryOf
 sealed-same s t e = record {
   version-same = byte-le s versionAt ∙ shared 1 s t magicAt 18 3 e (omega arith) ∙ sym (byte-le t versionAt);
@@ -383,7 +399,7 @@ module _ (s : List ℕ) (g : Geometry) (room : superBlockAt + 42 ≤ length s) w
   putSizes-here = rw length-sizes at (part-splice-from s superBlockAt (sizesBytes g) sizes-room 18)
 
   -- where only the sizes and the stamp differ, all of the geometry is then g's
-  pub putSizes-geometry : g .dataBlocks < 2 ^ 64 → g .indexBytes < 2 ^ 64 → SameBlocks g (geometryOf s) → geometryOf (putSizes s g) ≡ asStored g
+  pub putSizes-geometry : g .dataBlocks < 2 ^ 64 → g .indexBytes < 2 ^ 64 → SameSealed g (geometryOf s) → geometryOf (putSizes s g) ≡ asStored g
   unfolding geometryOf
   putSizes-geometry d i same =
       geometry-read (putSizes s g) g (part s magicAt 18) putSizes-here d i

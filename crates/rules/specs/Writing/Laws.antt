@@ -7,16 +7,15 @@ use mathlib.Core.Option.{Option, none, some}
 use lib.ListN.{length}
 use lib.IntN.{ℤ}
 use Rattle.rules.specs.Lists.{isSome}
-use Rattle.rules.specs.SuperBlock.{Geometry, lengthGood, fieldOf, geometryGood, blockLength, extendData, trimData, restamp, putSizes, writable}
+use Rattle.rules.specs.SuperBlock.{Geometry, lengthGood, fieldOf, geometryGood, trimData, restamp, putSizes, writable}
 use Rattle.rules.specs.Names.{pathGood, newPathGood, volumeNameGood, leading}
-use Rattle.rules.specs.Index.{Entry, slotAt, continuing}
-use Rattle.rules.specs.Regions.{blocksNeeded}
+use Rattle.rules.specs.Index.{Entry, slotAt}
 use Rattle.rules.specs.Paths.{lookup, anyBelow}
-use Rattle.rules.specs.Refusals.{Verdict, refused, accepted, Volume, entries, judge}
+use Rattle.rules.specs.Refusals.{refused, accepted, Volume, entries, judge}
 use Rattle.rules.specs.Refusals.Laws.{need-true, need-false, found-none, found-some}
-use Rattle.rules.specs.Outcome.{Outcome, done}
+use Rattle.rules.specs.Outcome.{done}
 use Rattle.rules.specs.Outcome.Laws.{denied, conclude-refused, conclude-accepted, volume-refused, volume-denied, volume-done}
-use Rattle.rules.specs.Writing.{Written, New, kindOf, bytesOf, formatOf, freshGeometry, formatted, createOf, nearestLive, Place, placeRun, placeFile, newEntry, created, deleteOf, deleted, reclaimOf, isDeleted, undeleted, leastEnd, cleared}
+use Rattle.rules.specs.Writing.{Written, New, formatOf, freshGeometry, formatted, createOf, nearestLive, newSlots, newBlocks, Place, placeRun, placeFile, siteOf, created, deleteOf, deleted, reclaimOf, isDeleted, undeleted, leastEnd, cleared}
 
 -- what a program's number and the image that it leaves come to
 abbrev pub writtenAs : ℕ → List ℕ → Written
@@ -104,13 +103,13 @@ module _ (s : List ℕ) (v : Volume) (opens : judge s ≡ accepted v) where
           create-orphan d = volume-denied tt s [] _ v 13 opens (need-true 9 _ may ∙ need-true 10 _ p ∙ need-true 12 _ free ∙ need-false 13 _ d)
 
           module _ (d : nearestLive (entries v) (leading path) ≡ true) where
-            pub create-slots : placeRun (length s) v (1 + continuing (kindOf new) (length path)) ≡ none → createOf s new path stamp ≡ refusedWrite s 15
+            pub create-slots : placeRun (length s) v (newSlots new path) ≡ none → createOf s new path stamp ≡ refusedWrite s 15
             unfolding createOf
             create-slots r =
                 volume-denied tt s [] _ v 15 opens (need-true 9 _ may ∙ need-true 10 _ p ∙ need-true 12 _ free ∙ need-true 13 _ d ∙ found-none 15 _ r)
 
-            module _ (q : Place) (r : placeRun (length s) v (1 + continuing (kindOf new) (length path)) ≡ some q) where
-              pub create-blocks : placeFile (length s) (q .geometry) (entries v) (blocksNeeded (blockLength (v .geometry)) (length (bytesOf new))) ≡ none
+            module _ (q : Place) (r : placeRun (length s) v (newSlots new path) ≡ some q) where
+              pub create-blocks : placeFile (length s) (q .geometry) (entries v) (newBlocks (v .geometry) new) ≡ none
                   → createOf s new path stamp ≡ refusedWrite s 16
               unfolding createOf
               create-blocks b =
@@ -118,10 +117,8 @@ module _ (s : List ℕ) (v : Volume) (opens : judge s ≡ accepted v) where
                   (need-true 9 _ may ∙ need-true 10 _ p ∙ need-true 12 _ free ∙ need-true 13 _ d ∙ found-some 15 _ r ∙ found-none 16 _ b)
 
               pub create-done : (start : ℕ)
-                  → placeFile (length s) (q .geometry) (entries v) (blocksNeeded (blockLength (v .geometry)) (length (bytesOf new))) ≡ some start
-                  → let e : Entry = newEntry new path stamp (q .slot) start (blocksNeeded (blockLength (v .geometry)) (length (bytesOf new))) in
-                  createOf s new path stamp
-                  ≡ wrote (created s (v .geometry) (restamp (v .geometry) (extendData (q .geometry) (e .end)) stamp) e (bytesOf new))
+                  → placeFile (length s) (q .geometry) (entries v) (newBlocks (v .geometry) new) ≡ some start
+                  → createOf s new path stamp ≡ wrote (created s (siteOf v new path stamp q start) new path stamp)
               unfolding createOf
               create-done start b =
                   volume-done tt s [] _ v _ opens

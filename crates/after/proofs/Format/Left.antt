@@ -12,20 +12,20 @@ use Rattle.rules.specs.SuperBlock.{Geometry, lengthGood, geometryGood, fieldOf,
 use Rattle.rules.specs.SuperBlock.Laws.{GoodGeometry, geometry-good, length-least, asStored, stored-block, stored-index, field-is}
 use Rattle.rules.specs.Names.{volumeNameGood}
 use Rattle.rules.specs.Names.Laws.{volume-name}
-use Rattle.rules.specs.Index.{itemsOf, innerSlots, walk, entriesOf, slotBytes}
+use Rattle.rules.specs.Index.{entriesOf}
 use Rattle.rules.specs.Regions.{regionsSound}
 use Rattle.rules.specs.Paths.{pathsSound}
 use Rattle.rules.specs.Refusals.{Volume}
-use Rattle.rules.specs.Refusals.Laws.{need-true, found-some, length-bounds, Opens, super-opens, opens-judge, length-formatted, formatted-ends, format-super, fresh-version, fresh-block}
-use Rattle.rules.specs.Outcome.{conclude, done}
-use Rattle.rules.specs.Writing.{formatOf, formatted, freshGeometry}
+use Rattle.rules.specs.Refusals.Laws.{length-bounds, Opens, super-opens, opens-judge, length-formatted, formatted-ends, format-super, fresh-version, fresh-block}
+use Rattle.rules.specs.Writing.{Written, formatOf, formatted, freshGeometry}
 use Rattle.laws.proofs.Lists.Perms.{perm-of}
-use Rattle.after.specs.After.{sight, AfterFormat}
-use Rattle.after.proofs.Format.Answers.{passed-need, passed-found}
-use Rattle.after.proofs.Format.Ends.{ends-sound}
+use Rattle.after.specs.After.{sight, unusables, AfterFormat}
+use Rattle.laws.proofs.Images.Accepted.{passed-need, passed-found, passed-done}
+use Rattle.laws.proofs.Index.Ends.{ends-sound}
+use Rattle.laws.proofs.Index.Slots.{no-items}
 
--- ---- what was asked for, and what was written
-record Asked (s : List ℕ) (bytesPerBlock reserved : ℕ) (name : List ℕ) (stamp : ℤ) : Type 0 where
+-- ---- what an accepted format has passed
+record FormatPassed (s : List ℕ) (bytesPerBlock reserved : ℕ) (name : List ℕ) (stamp : ℤ) : Type 0 where
   blockField : ℕ
   long : lengthGood (length s) ≡ true
   field : fieldOf bytesPerBlock ≡ some blockField
@@ -33,31 +33,21 @@ record Asked (s : List ℕ) (bytesPerBlock reserved : ℕ) (name : List ℕ) (st
   named : volumeNameGood name ≡ true
   image : formatOf s bytesPerBlock reserved name stamp .image ≡ formatted s (freshGeometry (length s) blockField reserved stamp) name
 
-asked : (s : List ℕ) (bytesPerBlock reserved : ℕ) (name : List ℕ) (stamp : ℤ) → formatOf s bytesPerBlock reserved name stamp .refusal ≡ 0
-    → Asked s bytesPerBlock reserved name stamp
-unfolding formatOf conclude done
-asked s bytesPerBlock reserved name stamp e =
-    let (a, e₁) = passed-need tt s [] _ 1 _ (omega arith) e in
-    let (b, f, e₂) = passed-found tt s [] _ 5 _ (omega arith) e₁ in
-    let (c, e₃) = passed-need tt s [] _ 5 _ (omega arith) e₂ in
-    let (d, e₄) = passed-need tt s [] _ 10 _ (omega arith) e₃ in
-    record {
-      blockField = b;
-      long = a;
-      field = f;
-      good = c;
-      named = d;
-      image = ap (λ v. conclude tt s [] v .image) (need-true _ _ a ∙ found-some _ _ f ∙ need-true _ _ c ∙ need-true _ _ d);
-    }
+format-passed : (s : List ℕ) (bytesPerBlock reserved : ℕ) (name : List ℕ) (stamp : ℤ) → formatOf s bytesPerBlock reserved name stamp .refusal ≡ 0
+    → FormatPassed s bytesPerBlock reserved name stamp
+unfolding formatOf
+format-passed s bytesPerBlock reserved name stamp z =
+    let w : Written = formatOf s bytesPerBlock reserved name stamp in
+    let p₁ = passed-need s w z (lengthGood (length s)) 1 _ (omega arith) refl in
+    let p₂ = passed-found s w z (fieldOf bytesPerBlock) 5 _ (omega arith) (p₁ .1) in
+    let p₃ = passed-need s w z (geometryGood (length s) (freshGeometry (length s) (p₂ .0) reserved stamp)) 5 _ (omega arith) (p₂ .2) in
+    let p₄ = passed-need s w z (volumeNameGood name) 10 _ (omega arith) (p₃ .1) in
+    record { blockField = p₂ .0; long = p₁ .0; field = p₂ .1; good = p₃ .0; named = p₄ .0; image = passed-done s _ w (p₄ .1) }
 
 -- ---- an index of 128 bytes has no slot between its ends
 fresh-index : (n b reserved : ℕ) (stamp : ℤ) → freshGeometry n b reserved stamp .indexBytes ≡ 128
 unfolding freshGeometry
 fresh-index n b reserved stamp = refl
-
-no-items : (t : List ℕ) (g : Geometry) → g .indexBytes ≡ 128 → itemsOf t g ≡ []
-unfolding itemsOf innerSlots walk
-no-items t g i = let z : g .indexBytes / slotBytes - 2 ≡ 0 = omega arith in rw z
 
 no-regions : (g : Geometry) → regionsSound g (entriesOf []) ≡ true
 unfolding regionsSound entriesOf all everyTwo
@@ -73,6 +63,10 @@ empty g = record { geometry = g; items = [] }
 no-sight : (t : List ℕ) (g : Geometry) → sight t (empty g) ≡ []
 unfolding sight only entriesOf empty
 no-sight t g = refl
+
+no-unusable : (g : Geometry) → unusables (empty g) ≡ []
+unfolding unusables only entriesOf empty
+no-unusable g = refl
 
 formatted-opens : (s : List ℕ) (g : Geometry) (name : List ℕ) → GoodGeometry (length s) g → length s ≤ 16_777_216 → version10 ≤ g .version
     → g .indexBytes ≡ 128 → volumeNameGood name ≡ true
@@ -92,7 +86,7 @@ formatted-opens s g name good high v i named =
 pub format-left : AfterFormat
 unfolding empty
 format-left s bytesPerBlock reserved name stamp e =
-    let a = asked s bytesPerBlock reserved name stamp e in
+    let a = format-passed s bytesPerBlock reserved name stamp e in
     let g = freshGeometry (length s) (a .blockField) reserved stamp in
     let t = formatted s g name in
     let o : Opens t (empty (asStored g)) =
@@ -103,4 +97,5 @@ format-left s bytesPerBlock reserved name stamp e =
       opens = opens-judge t (empty (asStored g)) o;
       blocks = stored-block g ∙ fresh-block (length s) (a .blockField) reserved stamp ∙ field-is bytesPerBlock (a .blockField) (a .field) .2;
       agree = perm-of _ _ (no-sight t (asStored g));
+      unusable = perm-of _ _ (no-unusable (asStored g));
     })

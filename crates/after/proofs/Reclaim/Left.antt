@@ -1,31 +1,33 @@
 -- An accepted reclaim leaves an image that opens, with its live entries as they were.
 use Prim.Native.Nat.{ℕ, _≤_}
-use mathlib.Core.Path.{_≡_, refl, sym, _∙_}
+use mathlib.Core.Path.{_≡_, refl, sym, ap, _∙_}
 use mathlib.Core.Bool.{true, not}
 use mathlib.Core.List.{List}
 use native.Mathlib.Omega.{arith}
 use lib.ListN.{length}
 use lib.IntN.{ℤ}
-use Rattle.rules.specs.Lists.{only, All}
+use Rattle.rules.specs.Lists.{only}
 use Rattle.rules.specs.SuperBlock.{Geometry, blockLength, dataEnd, trimData, withData, withStamp, restamp, putSizes}
-use Rattle.rules.specs.SuperBlock.Laws.{GoodGeometry, SameBlocks, same-self, same-trim, same-restamp, asStored, stored-block, stored-index}
+use Rattle.rules.specs.SuperBlock.Laws.{GoodGeometry, SameSealed, same-self, same-trim, same-restamp, asStored, stored-block, stored-index}
 use Rattle.rules.specs.Index.{Entry, itemsOf}
 use Rattle.rules.specs.Regions.{regionsSound}
 use Rattle.rules.specs.Refusals.{accepted, Volume, entries, judge}
 use Rattle.rules.specs.Refusals.Laws.{GoodSuper, Opens, judge-opens, opens-judge, opens-super, sizes-super}
 use Rattle.rules.specs.Writing.{reclaimOf, cleared, undeleted, leastEnd, isDeleted}
-use Rattle.after.specs.After.{Left, sight, AfterReclaim}
+use Rattle.after.specs.After.{Left, sight, unusables, AfterReclaim}
 use Rattle.laws.proofs.Lists.Perms.{perm-of}
 use Rattle.laws.proofs.Index.Items.{noFault}
-use Rattle.laws.proofs.Entries.Regions.{Settled, sound-geometry, sound-reclaim, sound-restamp, trim-fits}
-use Rattle.laws.proofs.Entries.Walked.{settled-items}
+use Rattle.laws.proofs.Entries.Regions.{sound-geometry, sound-reclaim, sound-restamp, trim-fits}
+use Rattle.laws.proofs.Entries.Walked.{settled-entries, bare-entries}
 use Rattle.laws.proofs.Entries.Paths.{paths-reclaim}
 use Rattle.laws.proofs.Images.Accepted.{passed-writable, passed-done}
-use Rattle.laws.proofs.Images.Areas.{Between, Bare}
-use Rattle.laws.proofs.Images.Inner.{ends-good, endsGood, inner-index, inner-between, inner-opens}
-use Rattle.laws.proofs.Images.Indexes.{bare-entries, items-same}
+use Rattle.laws.proofs.Index.Slots.{items-same}
+use Rattle.laws.proofs.Index.Ends.{ends-good, endsGood}
+use Rattle.laws.proofs.Images.Kept.{Between}
+use Rattle.laws.proofs.Images.Inner.{inner-index, inner-between, inner-opens}
 use Rattle.laws.proofs.Images.Sizes.{restamp-index, restamp-end, block-same, good-shrunk, sizes-long, sizes-between, sizes-ends, sizes-items}
-use Rattle.after.proofs.Reclaim.Clearing.{Cleared, clearedItems, cleared-entries, cleared-sound, clear-all}
+use Rattle.laws.proofs.Images.Clearing.{Cleared, clearedItems, cleared-entries, cleared-sound, clear-all}
+use Rattle.after.proofs.Unusable.{extentsOf, extents-undeleted}
 use Rattle.after.proofs.Reclaim.Keeping.{all-kept}
 
 -- ---- the geometry that is written, and the one that is then read
@@ -45,7 +47,7 @@ module _ (s : List ℕ) (v : Volume) (stamp : ℤ) (o : Opens s v) where
   abbrev h : Geometry
   h = trimmed v stamp
 
-  same : SameBlocks h g
+  same : SameSealed h g
   unfolding trimmed
   same = same-restamp (trimData g (leastEnd (undeleted (entries v)))) g (same-trim g g (same-self g) (leastEnd (undeleted (entries v)))) g stamp
 
@@ -53,12 +55,9 @@ module _ (s : List ℕ) (v : Volume) (stamp : ℤ) (o : Opens s v) where
   unfolding trimmed trimData withData
   index = restamp-index g (trimData g (leastEnd (undeleted (entries v)))) stamp
 
-  settled : All Settled (entries v)
-  settled = rw (o .items-are) (settled-items s g)
-
   shrinks : dataEnd h ≤ dataEnd g
   unfolding trimmed
-  shrinks = omega (arith, restamp-end g (trimData g (leastEnd (undeleted (entries v)))) stamp, trim-fits g (entries v) settled (o .regions-sound))
+  shrinks = omega (arith, restamp-end g (trimData g (leastEnd (undeleted (entries v)))) stamp, trim-fits g (entries v) (settled-entries s v o) (o .regions-sound))
 
   good : GoodGeometry (length s) h
   good = good-shrunk g h same (length s) index shrinks (o .geometry-good)
@@ -90,12 +89,12 @@ module _ (s : List ℕ) (v : Volume) (stamp : ℤ) (o : Opens s v) where
   sound : noFault (v .items)
   sound = ends-good s g (v .items) (o .index-sound) .1
 
-  clears : Cleared begun image h (clearedItems (v .items))
+  clears : Cleared begun image h (clearedItems isDeleted (v .items))
   unfolding image
-  clears = clear-all begun h (v .items) (rw long good) begun-items sound
+  clears = clear-all isDeleted begun h (v .items) (rw long good) begun-items sound
 
   volume : Volume
-  volume = record { geometry = asStored h; items = clearedItems (v .items) }
+  volume = record { geometry = asStored h; items = clearedItems isDeleted (v .items) }
 
   regions : regionsSound (asStored h) (undeleted (entries v)) ≡ true
   unfolding trimmed asStored withStamp
@@ -108,18 +107,18 @@ module _ (s : List ℕ) (v : Volume) (stamp : ℤ) (o : Opens s v) where
   opens : Opens image volume
   unfolding volume
   opens =
-      inner-opens begun image (asStored h) (begun-super .geometry-good) (inner-index begun image h (asStored h) (stored-index h) (clears .inner)) (clearedItems (v .items)) begun-super begun-ends
+      inner-opens begun image (asStored h) (begun-super .geometry-good) (inner-index begun image h (asStored h) (stored-index h) (clears .inner)) (clearedItems isDeleted (v .items)) begun-super begun-ends
       (items-same image image h (asStored h) refl (stored-index h) refl ∙ clears .items)
-      (cleared-sound (v .items) sound)
-      (rw (cleared-entries (v .items)) regions)
-      (rw (cleared-entries (v .items)) (paths-reclaim (entries v) (o .paths-sound)))
+      (cleared-sound isDeleted (v .items) sound)
+      (rw (cleared-entries isDeleted (v .items)) regions)
+      (rw (cleared-entries isDeleted (v .items)) (paths-reclaim (entries v) (o .paths-sound)))
 
   -- ---- what is seen of it
   between : Between s image g
   unfolding begun
   between a n low high =
       inner-between begun image h (rw long good) (clears .inner) a n low (omega (arith, long, index))
-      ∙ sizes-between s g h (o .geometry-good) a n low high
+      ∙ sizes-between s g h (o .geometry-good) g a n low high
 
   block : blockLength (asStored h) ≡ blockLength g
   block = stored-block h ∙ block-same g h same
@@ -127,12 +126,15 @@ module _ (s : List ℕ) (v : Volume) (stamp : ℤ) (o : Opens s v) where
   keeps : sight image volume ≡ only (λ k. k .live) (sight s v)
   unfolding sight volume
   keeps =
-      let bare : All Bare (entries v) = rw (o .items-are) (bare-entries s g) in
-      rw (cleared-entries (v .items)) (all-kept s image g (asStored h) (o .geometry-good) between block (entries v) bare (o .regions-sound))
+      rw (cleared-entries isDeleted (v .items)) (all-kept s image g (asStored h) (o .geometry-good) between block (entries v) (bare-entries s v o) (o .regions-sound))
 
-  left : Left image (blockLength g) (only (λ k. k .live) (sight s v))
+  unusable : unusables volume ≡ unusables v
+  unfolding unusables volume
+  unusable = ap extentsOf (cleared-entries isDeleted (v .items)) ∙ extents-undeleted (entries v)
+
+  left : Left image (blockLength g) (only (λ k. k .live) (sight s v)) (unusables v)
   unfolding volume
-  left = record { volume = volume; opens = opens-judge image volume opens; blocks = block; agree = perm-of _ _ keeps }
+  left = record { volume = volume; opens = opens-judge image volume opens; blocks = block; agree = perm-of _ _ keeps; unusable = perm-of _ _ unusable }
 
 pub reclaim-left : AfterReclaim
 unfolding image begun

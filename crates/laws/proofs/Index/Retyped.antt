@@ -1,0 +1,125 @@
+-- Another type and stamp written to a run's first slot: the rest of its entry is as it was. Deleting is a case of it.
+use Prim.Native.Nat.{ℕ, _+_, _-_, _*_, _≤_, _<_}
+use mathlib.Core.Path.{_≡_, refl, sym, ap, _∙_}
+use mathlib.Core.Bool.{true}
+use mathlib.Core.List.{List, [], _∷_}
+use native.Mathlib.Omega.{arith}
+use lib.ListN.{length, take, drop}
+use lib.IntN.{ℤ}
+use Rattle.rules.specs.Lists.{pick}
+use Rattle.rules.specs.Lists.Laws.{drop-take}
+use Rattle.rules.specs.Fields.{byteAt, le, splice, signedOf, stampIn, stampBytes}
+use Rattle.rules.specs.Fields.Laws.{length-splice, getD-splice-before, getD-splice-in, getD-splice-after, le-splice-in, le-splice-after}
+use Rattle.rules.specs.SuperBlock.Laws.{storedStamp}
+use Rattle.rules.specs.Index.{Entry, entry, itemAt, entryAt, runSlots, nameField, nameAt, fileField, runType, fileType, slotBytes, countAt, stampAt, startAt, endAt, lengthAt, retyped}
+use Rattle.rules.specs.Index.Laws.{name-at-bounds}
+use Rattle.rules.specs.Index.Items.{item-run}
+use Rattle.laws.proofs.Lists.Spans.{SameBut, but-splice, but-wider, but-then, but-drop}
+use Rattle.laws.proofs.Index.ListFacts.{drop-splice-part}
+use Rattle.laws.proofs.Index.Entries.{entry-run, run-kind}
+use Rattle.laws.proofs.Index.Runs.{length-stamp}
+
+-- the entry of another type and stamp
+unfoldable pub retypedEntry : ℕ → ℤ → Entry → Entry
+retypedEntry kind stamp e = record {
+  kind = kind;
+  slot = e .slot;
+  slots = e .slots;
+  stamp = stamp;
+  start = e .start;
+  end = e .end;
+  length = e .length;
+  path = e .path;
+}
+
+-- ---- the write: ten bytes from the slot's start
+module _ (s : List ℕ) (at kind : ℕ) (stamp : ℤ) (room : at + 10 ≤ length s) where
+  typed-length : length (splice s at (kind ∷ [])) ≡ length s
+  typed-length = length-splice s at (kind ∷ []) (omega arith)
+
+  pub retyped-written : SameBut at (at + 10) s (retyped s at kind stamp)
+  unfolding retyped
+  retyped-written =
+      but-then (but-wider (but-splice s at (kind ∷ []) (omega arith)) at (at + 10) (omega arith) (omega arith))
+      (but-wider (but-splice (splice s at (kind ∷ [])) (at + stampAt) (stampBytes stamp) (omega (arith, typed-length, length-stamp stamp))) at (at + 10) (omega arith) (omega (arith, length-stamp stamp)))
+
+-- in a part it is that in the whole, further on
+pub retyped-part : (n : ℕ) (s : List ℕ) (at kind : ℕ) (stamp : ℤ) → n + at + 10 ≤ length s → drop n (retyped s (n + at) kind stamp) ≡ retyped (drop n s) at kind stamp
+unfolding retyped
+retyped-part n s at kind stamp h =
+    let t : List ℕ = splice s (n + at) (kind ∷ []) in
+    let p : n + at + stampAt ≡ n + (at + stampAt) = omega arith in
+    ap (λ (j : ℕ). drop n (splice t j (stampBytes stamp))) p
+    ∙ drop-splice-part n t (at + stampAt) (stampBytes stamp) (omega (arith, typed-length s (n + at) kind stamp h))
+    ∙ ap (λ (xs : List ℕ). splice xs (at + stampAt) (stampBytes stamp)) (drop-splice-part n s at (kind ∷ []) (omega arith))
+
+-- ---- the bytes of the run, read field by field
+module _ (a : List ℕ) (kind : ℕ) (stamp : ℤ) (room : slotBytes ≤ length a) where
+  typed : List ℕ
+  typed = splice a 0 (kind ∷ [])
+
+  length-typed : length typed ≡ length a
+  unfolding typed
+  length-typed = length-splice a 0 (kind ∷ []) (omega arith)
+
+  fits : stampAt + length (stampBytes stamp) ≤ length typed
+  fits = omega (arith, length-stamp stamp, length-typed)
+
+  type-back : byteAt (retyped a 0 kind stamp) 0 ≡ kind
+  unfolding byteAt retyped typed
+  type-back = getD-splice-before typed stampAt (stampBytes stamp) fits 0 (omega arith) ∙ getD-splice-in a 0 (kind ∷ []) (omega arith) 0 (omega arith)
+
+  slots-back : runSlots (retyped a 0 kind stamp) ≡ runSlots a
+  unfolding runSlots byteAt retyped typed
+  slots-back =
+      ap (λ (c : ℕ). 1 + c)
+      (getD-splice-before typed stampAt (stampBytes stamp) fits countAt (omega arith) ∙ getD-splice-after a 0 (kind ∷ []) (omega arith) countAt (omega arith))
+
+  stamp-back : stampIn (retyped a 0 kind stamp) stampAt ≡ storedStamp stamp
+  unfolding stampIn retyped typed storedStamp
+  stamp-back =
+      let e : le (length (stampBytes stamp)) (splice typed stampAt (stampBytes stamp)) stampAt ≡ le (length (stampBytes stamp)) (stampBytes stamp) 0 =
+      le-splice-in typed stampAt (stampBytes stamp) fits in
+      ap signedOf (rw length-stamp at e)
+
+  module _ (same : fileType kind ≡ fileType (byteAt a 0)) where
+    field-back : (at : ℕ) → 10 ≤ at → fileField (retyped a 0 kind stamp) at ≡ fileField a at
+    unfolding fileField retyped typed
+    field-back at h =
+        rw (type-back, same)
+        (ap (λ (n : ℕ). pick (fileType (byteAt a 0)) n 0)
+        (le-splice-after typed stampAt (stampBytes stamp) fits 8 at (omega (arith, length-stamp stamp))
+        ∙ le-splice-after a 0 (kind ∷ []) (omega arith) 8 at (omega arith)))
+
+    name-at-same : nameAt kind ≡ nameAt (byteAt a 0)
+    unfolding nameAt
+    name-at-same = rw same
+
+    pub name-back : nameField (retyped a 0 kind stamp) ≡ nameField a
+    unfolding nameField runSlots
+    name-back =
+        let n : ℕ = nameAt (byteAt a 0) in
+        let m : ℕ = slotBytes * runSlots a in
+        let b = name-at-bounds (byteAt a 0) in
+        let e : m ≡ n + (m - n) = omega arith in
+        rw (type-back, slots-back, name-at-same)
+        (ap (λ (j : ℕ). drop n (take j (retyped a 0 kind stamp))) e
+        ∙ drop-take n (m - n) (retyped a 0 kind stamp)
+        ∙ ap (take (m - n)) (but-drop (retyped-written a 0 kind stamp (omega arith)) n (omega arith))
+        ∙ sym (drop-take n (m - n) a)
+        ∙ sym (ap (λ (j : ℕ). drop n (take j a)) e))
+
+    entry-back : (k : ℕ) → entryAt k (retyped a 0 kind stamp) ≡ retypedEntry kind (storedStamp stamp) (entryAt k a)
+    unfolding entryAt retypedEntry
+    entry-back k = rw (type-back, slots-back, stamp-back, field-back startAt (omega arith), field-back endAt (omega arith), field-back lengthAt (omega arith), name-back)
+
+-- a run of another type that is a file's where the old one is: the same entry, of that type and with the new stamp
+pub item-retyped : (left k : ℕ) (a : List ℕ) (e : Entry) (kind : ℕ) (stamp : ℤ) → 0 < left → slotBytes * left ≤ length a → itemAt left k a ≡ entry e
+    → runType (e .kind) ≡ true → runType kind ≡ true → fileType kind ≡ fileType (e .kind)
+    → itemAt left k (retyped a 0 kind stamp) ≡ entry (retypedEntry kind (storedStamp stamp) e)
+item-retyped left k a e kind stamp more room q old new alike =
+    let h = entry-run left k a e q old in
+    let l : slotBytes ≤ length a = omega arith in
+    let same : fileType kind ≡ fileType (byteAt a 0) = alike ∙ ap fileType (run-kind left k a e h) in
+    item-run left k (retyped a 0 kind stamp) (rw (type-back a kind stamp l) new) (rw (slots-back a kind stamp l) (h .within)) (rw (name-back a kind stamp l same) (h .named))
+    ∙ ap entry (entry-back a kind stamp l same k ∙ ap (retypedEntry kind (storedStamp stamp)) (sym (h .made)))
