@@ -5,17 +5,16 @@ use mathlib.Core.Bool.{Bool, true, false}
 use mathlib.Core.List.{List, [], _∷_}
 use native.Mathlib.Omega.{arith}
 use lib.ListN.{length, getD, drop}
-use lib.Seq.{drop-drop}
-use Rattle.rules.specs.Lists.Laws.{clash}
-use Rattle.rules.specs.Fields.{byteAt}
-use Rattle.rules.specs.Index.{Entry, Item, entry, unused, itemAt, entryAt, unusableAt, entriesOf, runSlots, runType, nameGood, nameField, slotBytes, typeUnusable}
-use Rattle.rules.specs.Index.Walk.{walkAll, slotsOf, walk-none, pick-both}
-use Rattle.rules.specs.Index.Items.{faultless, headOf, head-run, head-unusable, entryType, Stands, sound-entry, sound-unused, rest-sound, entries-entry, entries-unused, byte-drop, type-drop}
+use Rattle.rules.specs.Index.{Entry, Item, entry, unused, itemAt, entriesOf, slotBytes}
+use Rattle.rules.specs.Index.Walk.{walkAll, slotsOf, walk-none}
+use Rattle.rules.specs.Index.Items.{faultless, headOf, entryType, Stands, sound-entry, sound-unused, rest-sound, entries-entry, entries-unused, type-drop}
+use Rattle.slots.specs.declared.Head.{Head}
+use Rattle.slots.specs.View.{slots-is, slot-is, head-in}
+pub use Rattle.slots.specs.View.{HeadIn}
 use Rattle.index.specs.declared.Cursor.{Cursor}
-use Rattle.index.specs.declared.Head.{Head}
 use Rattle.index.specs.declared.Next.{Next}
 use Rattle.index.specs.declared.Next.the-variants.{End, Found}
-use Rattle.index.specs.View.{Inside, itemsFrom, headView, unusable-no-run}
+use Rattle.index.specs.View.{Inside, itemsFrom, headView, Past, past-items, past-inside}
 
 -- the entries that a cursor has before it
 abbrev pub entriesFrom : List ℕ → Cursor → List Entry
@@ -52,60 +51,51 @@ module _ (s : List ℕ) (c : Cursor) (walks : Walks s c) (more : 0 < c .left) wh
       omega (arith, slots-is s (c .at .0) (c .slot .0) h view, st .fits)
 
   pub step-found : entryType (getD s (c .at .0) 0) ≡ true → (h : Head) (d : Cursor)
-      → headView s h ≡ headOf (c .slot .0) (drop (c .at .0) s) → h .at .0 ≡ c .at .0 → h .slots ≤ 256
-      → d .at .0 ≡ c .at .0 + 64 * h .slots → d .slot .0 ≡ c .slot .0 + h .slots → d .left ≡ c .left - h .slots
+      → headView s h ≡ headOf (c .slot .0) (drop (c .at .0) s) → h .at .0 ≡ c .at .0 → h .slots ≤ 256 → Past c (h .slots) d
       → Step s c h d
-  step-found t h d view place few at slot left =
+  step-found t h d view place few past =
       let k : ℕ = c .slot .0 in
       let a : List ℕ = drop (c .at .0) s in
       let st : Stands (c .left) k a = sound-entry (c .left) k a more (walks .sound) (ap entryType (type-drop s (c .at .0)) ∙ t) in
       let n : h .slots ≡ headOf k a .slots = slots-is s (c .at .0) k h view in
-      let r : itemsFrom s d ≡ walkAll (c .left - headOf k a .slots) (k + headOf k a .slots) (drop (slotBytes * headOf k a .slots) a) =
-      rw (at, slot, left, n) (ap (walkAll (c .left - headOf k a .slots) (k + headOf k a .slots)) (sym (drop-drop (64 * headOf k a .slots) (c .at .0) s))) in
+      let r : itemsFrom s d ≡ walkAll (c .left - headOf k a .slots) (k + headOf k a .slots) (drop (slotBytes * headOf k a .slots) a) = rw n at (past-items s c (h .slots) d past) in
       let i : Inside s c = walks .inside in
       let number : h .slot .0 ≡ k = slot-is s (c .at .0) k h view in
       record {
         entries = entries-entry (c .left) k a more (headOf k a) (st .item) ∙ rw (view, r);
         walks = record {
-          inside = record { fits = omega (arith, at, left, i .fits, st .fits, n); short = i .short; numbers = omega (arith, slot, left, i .numbers, st .fits, n) };
+          inside = past-inside s c (h .slots) d past i (slots-left t h view);
           sound = rw r (rest-sound (c .left) k a more (walks .sound) (entry (headOf k a)) (st .item) (headOf k a .slots) (slots-entry (headOf k a)));
         };
-        less = omega (arith, left, n, st .low);
+        less = omega (arith, past .left, n, st .low);
         head = head-in s (c .at .0) k h view (c .left) st (i .fits) (i .short) place few;
         place = omega (arith, place, number);
-        after = omega (arith, at, place);
-        number = omega (arith, slot, number);
+        after = omega (arith, past .at, place);
+        number = omega (arith, past .slot, number);
       }
 
 -- ---- a step over an unused slot
-abbrev pub cursorAt : ℕ → ℕ → ℕ → Cursor
-cursorAt at slot left = record { at = record { 0 = at }; slot = record { 0 = slot }; left = left }
-
 one-slot : (k : ℕ) → 1 ≡ slotsOf (unused k)
 unfolding slotsOf
 one-slot k = refl
 
-module _ (s : List ℕ) (at slot left : ℕ) (walks : Walks s (cursorAt at slot left)) (more : 0 < left) (type : entryType (getD s at 0) ≡ false) where
-  item-is : itemAt left slot (drop at s) ≡ unused slot
-  item-is = sound-unused left slot (drop at s) more (walks .sound) (ap entryType (type-drop s at) ∙ type)
+module _ (s : List ℕ) (c : Cursor) (walks : Walks s c) (more : 0 < c .left) (type : entryType (getD s (c .at .0) 0) ≡ false) where
+  pub item-is : itemAt (c .left) (c .slot .0) (drop (c .at .0) s) ≡ unused (c .slot .0)
+  item-is = sound-unused (c .left) (c .slot .0) (drop (c .at .0) s) more (walks .sound) (ap entryType (type-drop s (c .at .0)) ∙ type)
 
-  next-items : itemsFrom s (cursorAt (at + 64) (slot + 1) (left - 1)) ≡ walkAll (left - 1) (slot + 1) (drop slotBytes (drop at s))
-  next-items = ap (walkAll (left - 1) (slot + 1)) (sym (drop-drop 64 at s))
+  module _ (d : Cursor) (past : Past c 1 d) where
+    pub skip-entries : entriesFrom s d ≡ entriesFrom s c
+    skip-entries = ap entriesOf (past-items s c 1 d past) ∙ sym (entries-unused (c .left) (c .slot .0) (drop (c .at .0) s) more item-is)
 
-  pub skip-entries : entriesFrom s (cursorAt (at + 64) (slot + 1) (left - 1)) ≡ entriesFrom s (cursorAt at slot left)
-  skip-entries = ap entriesOf next-items ∙ sym (entries-unused left slot (drop at s) more item-is)
+    pub skip-walks : Walks s d
+    skip-walks = record {
+      inside = past-inside s c 1 d past (walks .inside) (omega arith);
+      sound = rw (past-items s c 1 d past) (rest-sound (c .left) (c .slot .0) (drop (c .at .0) s) more (walks .sound) (unused (c .slot .0)) item-is 1 (one-slot (c .slot .0)));
+    }
 
-  pub skip-walks : Walks s (cursorAt (at + 64) (slot + 1) (left - 1))
-  skip-walks =
-      let i : Inside s (cursorAt at slot left) = walks .inside in
-      record {
-        inside = record { fits = omega (arith, i .fits); short = i .short; numbers = omega (arith, i .numbers) };
-        sound = rw next-items (rest-sound left slot (drop at s) more (walks .sound) (unused slot) item-is 1 (one-slot slot));
-      }
-
-pub no-more : (s : List ℕ) (at slot left : ℕ) → left ≡ 0 → entriesFrom s (cursorAt at slot left) ≡ []
+pub no-more : (s : List ℕ) (c : Cursor) → c .left ≡ 0 → entriesFrom s c ≡ []
 unfolding entriesOf
-no-more s at slot left z = rw (z, walk-none slot (drop at s))
+no-more s c z = rw (z, walk-none (c .slot .0) (drop (c .at .0) s))
 
 -- the answer from further on is the answer from the start
 pub told-before : (s : List ℕ) (b c : Cursor) (r : Next) → entriesFrom s c ≡ entriesFrom s b → c .left ≤ b .left → c .at .0 + 64 * b .slot .0 ≡ b .at .0 + 64 * c .slot .0

@@ -4,20 +4,19 @@ use mathlib.Core.Path.{_≡_, refl, sym, ap, _∙_}
 use native.Mathlib.Omega.{arith}
 use borrow.Author.Tests.{le-leb, lt-leb, eq-eqb, ne-eqb}
 use mathlib.Core.Bool.{Bool, true, false, _&&_}
-use mathlib.Core.List.{List, []}
-use lib.ListN.{length, getD, take, drop}
+use mathlib.Core.List.{List}
+use lib.ListN.{length, getD, drop}
 use lib.Dec.{eqb, leb}
 use lib.Seq.{drop-drop}
 use Rattle.rules.specs.Lists.{pick, all}
 use Rattle.rules.specs.Lists.Laws.{pick-true, pick-false, and-left, and-right, and-both}
-use Rattle.rules.specs.Fields.{byteAt, le, signedOf, stampIn, upToZero}
-use Rattle.rules.specs.Fields.Laws.{le-drop}
-use lib.IntN.{pos}
-use Rattle.rules.specs.Index.{Entry, Item, unused, entry, fault, itemAt, runAt, entryAt, unusableAt, runSlots, nameGood, nameField, runType, strayType, typeUnusable, nameAt, isFault, slotBytes, fileField, fileType, directoryType}
+use Rattle.rules.specs.Fields.{byteAt}
+use Rattle.rules.specs.Index.{Item, unused, entry, fault, itemAt, runAt, runSlots, nameGood, nameField, runType, strayType, typeUnusable, isFault, slotBytes}
 use Rattle.rules.specs.Index.Walk.{walkAll, slotsOf, slots-pos, walk-none, walk-unused, walk-entry, walk-fault}
+use Rattle.rules.specs.Index.Items.{type-drop, faultless}
+use Rattle.slots.specs.View.{entry-slots, unusable-slots}
 use Rattle.index.specs.declared.Cursor.{Cursor}
-use Rattle.index.specs.declared.Head.{Head}
-use Rattle.rules.specs.Index.Items.{byte-drop, type-drop, name-field, faultless, headOf, head-unusable}
+unfoldable pub use Rattle.slots.specs.View.{headView}
 
 -- how many slots a walk goes on from an item; 0 stands for a fault
 unfoldable pub stepOf : Item → ℕ
@@ -42,38 +41,29 @@ pick-step true x y = refl
 pick-step false x y = refl
 
 pub step-is : (left k : ℕ) (a : List ℕ) → stepOf (itemAt left k a) ≡ stepAt left a
-unfolding itemAt stepAt runAt runStep stepOf entryAt unusableAt
-step-is left k a = simp pick-step
+unfolding itemAt stepAt runAt runStep stepOf
+step-is left k a = simp (pick-step, entry-slots, unusable-slots)
 
--- ---- what a program reads at `at`: b is the count, nm the place of the name in the first slot
-module _ (s : List ℕ) (at left b : ℕ) (count : b ≡ getD s (at + 1) 0) where
-  slots-at : runSlots (drop at s) ≡ 1 + b
-  unfolding runSlots
-  slots-at = ap (λ (x : ℕ). 1 + x) (byte-drop s at 1 ∙ sym count)
-
-  pub run-long : left < 1 + b → 0 ≡ runStep left (drop at s)
+-- ---- what a program reads at `at`: n slots, and whether their name is good
+module _ (left n : ℕ) (a : List ℕ) (count : n ≡ runSlots a) where
+  pub run-long : left < n → 0 ≡ runStep left a
   unfolding runStep
-  run-long h = sym (pick-false _ _ (and-left _ _ (lt-leb (runSlots (drop at s)) left (rw slots-at h))))
+  run-long h = sym (pick-false _ _ (and-left _ _ (lt-leb (runSlots a) left (rw count at h))))
 
-  module _ (nm : ℕ) (name : nm ≡ nameAt (getD s at 0)) where
-    field-at : nameField (drop at s) ≡ take (at + 64 * (1 + b) - (at + nm)) (drop (at + nm) s)
-    field-at =
-        let z : byteAt (drop at s) 0 ≡ getD s at 0 = byte-drop s at 0 ∙ ap (λ (x : ℕ). getD s x 0) (omega arith) in
-        name-field s at ∙ rw (slots-at, z, ← name)
-
-    pub run-nameless : (r : Bool) → r ≡ nameGood (take (at + 64 * (1 + b) - (at + nm)) (drop (at + nm) s)) → r ≡ false → 0 ≡ runStep left (drop at s)
+  module _ (r : Bool) (f : List ℕ) (name : r ≡ nameGood f) (field : f ≡ nameField a) where
+    pub run-nameless : r ≡ false → 0 ≡ runStep left a
     unfolding runStep
-    run-nameless r e f = sym (pick-false _ _ (and-right (leb (runSlots (drop at s)) left) _ (ap nameGood field-at ∙ sym e ∙ f)))
+    run-nameless e = sym (pick-false _ _ (and-right (leb (runSlots a) left) _ (ap nameGood (sym field) ∙ sym name ∙ e)))
 
-    pub run-named : (r : Bool) → r ≡ nameGood (take (at + 64 * (1 + b) - (at + nm)) (drop (at + nm) s)) → r ≡ true → 1 + b ≤ left → 1 + b ≡ runStep left (drop at s)
+    pub run-named : r ≡ true → n ≤ left → n ≡ runStep left a
     unfolding runStep
-    run-named r e f h =
-        let l : leb (runSlots (drop at s)) left ≡ true = le-leb (runSlots (drop at s)) left (rw slots-at h) in
-        sym (pick-true _ _ (and-both _ _ l (ap nameGood field-at ∙ sym e ∙ f)) ∙ slots-at)
+    run-named e h =
+        let l : leb (runSlots a) left ≡ true = le-leb (runSlots a) left (rw count at h) in
+        count ∙ sym (pick-true _ _ (and-both _ _ l (ap nameGood (sym field) ∙ sym name ∙ e)))
 
 module _ (s : List ℕ) (at left t : ℕ) (type : t ≡ getD s at 0) where
   type-at : byteAt (drop at s) 0 ≡ t
-  type-at = byte-drop s at 0 ∙ ap (λ (x : ℕ). getD s x 0) (omega arith) ∙ sym type
+  type-at = type-drop s at ∙ sym type
 
   pub step-run : runType t ≡ true → runStep left (drop at s) ≡ stepAt left (drop at s)
   unfolding stepAt
@@ -110,16 +100,6 @@ module _ (left k : ℕ) (a : List ℕ) (more : 0 < left) where
   turn-by (entry x) e n z d = rw (walk-entry left k a more x e, ← z)
   turn-by (fault j) e n z d = absurd (d (sym z))
 
-pub walk-turns : (s : List ℕ) (at left k n : ℕ) → 0 < left → n ≡ stepAt left (drop at s) → (n ≡ 0 → ⊥)
-    → faultless (walkAll (left - n) (k + n) (drop (at + 64 * n) s)) ≡ faultless (walkAll left k (drop at s))
-walk-turns s at left k n h e d =
-    ap (λ (x : List ℕ). faultless (walkAll (left - n) (k + n) x)) (sym (drop-drop (64 * n) at s))
-    ∙ turn-by left k (drop at s) h (itemAt left k (drop at s)) refl n (step-is left k (drop at s) ∙ sym e) d
-
-pub walk-ends : (k : ℕ) (a : List ℕ) (left : ℕ) → left ≡ 0 → true ≡ faultless (walkAll left k a)
-unfolding faultless all
-walk-ends k a left h = rw (h, walk-none k a)
-
 -- ---- cursors
 -- what a cursor has before it lies in the image
 pub record Inside (s : List ℕ) (c : Cursor) : Type 0 where
@@ -129,3 +109,30 @@ pub record Inside (s : List ℕ) (c : Cursor) : Type 0 where
 
 abbrev pub itemsFrom : List ℕ → Cursor → List Item
 itemsFrom s c = walkAll (c .left) (c .slot .0) (drop (c .at .0) s)
+
+-- the cursor n slots further
+pub record Past (c : Cursor) (n : ℕ) (d : Cursor) : Type 0 where
+  pub at : d .at .0 ≡ c .at .0 + 64 * n
+  pub slot : d .slot .0 ≡ c .slot .0 + n
+  pub left : d .left ≡ c .left - n
+
+module _ (s : List ℕ) (c : Cursor) (n : ℕ) (d : Cursor) (past : Past c n d) where
+  pub past-items : itemsFrom s d ≡ walkAll (c .left - n) (c .slot .0 + n) (drop (slotBytes * n) (drop (c .at .0) s))
+  past-items = rw (past .at, past .slot, past .left) (ap (walkAll (c .left - n) (c .slot .0 + n)) (sym (drop-drop (64 * n) (c .at .0) s)))
+
+  pub past-inside : Inside s c → n ≤ c .left → Inside s d
+  past-inside i h = record {
+    fits = omega (arith, past .at, past .left, i .fits);
+    short = i .short;
+    numbers = omega (arith, past .slot, past .left, i .numbers);
+  }
+
+  -- a walk that goes on by a step meets the faults of the walk before it
+  pub walk-turns : 0 < c .left → n ≡ stepAt (c .left) (drop (c .at .0) s) → (n ≡ 0 → ⊥) → faultless (itemsFrom s d) ≡ faultless (itemsFrom s c)
+  walk-turns h e z =
+      let a : List ℕ = drop (c .at .0) s in
+      ap faultless past-items ∙ turn-by (c .left) (c .slot .0) a h (itemAt (c .left) (c .slot .0) a) refl n (step-is (c .left) (c .slot .0) a ∙ sym e) z
+
+pub walk-ends : (s : List ℕ) (c : Cursor) → c .left ≡ 0 → true ≡ faultless (itemsFrom s c)
+unfolding faultless all
+walk-ends s c h = rw (h, walk-none (c .slot .0) (drop (c .at .0) s))

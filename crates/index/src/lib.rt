@@ -1,18 +1,17 @@
-// The index area: what stands at a slot, whether the index is sound, and the walk from entry to entry.
+// The index area: what stands at a slot, whether the index is sound, the walk from entry to entry, and unused slots.
 
-use units::Block;
+use slots::Head;
 use units::Offset;
 use units::Slot;
 ghost use mathlib.Core.Path.{_≡_};
 ghost use mathlib.Core.Bool.{true};
 ghost use Prim.Native.Nat.{_+_, _*_, _≤_, _<_};
 ghost use lib.ListN.{length, getD, drop};
-ghost use Rattle.rules.specs.Index.{runType, fileType, strayType, nameGood, fileField, entryAt};
-ghost use Rattle.rules.specs.Fields.{byteAt};
-ghost use Rattle.rules.specs.Index.Walk.{walkAll};
-ghost use Rattle.rules.specs.Index.Items.{faultless, headOf, entryType};
+ghost use Rattle.rules.specs.Index.Items.{faultless, entryType};
+ghost use Rattle.rules.specs.Writing.{lowestUnused};
+ghost use Rattle.index.specs.View.{runStep, stepAt, Inside, Past, itemsFrom};
 ghost use Rattle.index.specs.Steps.{Walks, Told};
-ghost use Rattle.index.specs.View.{runStep, stepAt, Inside, itemsFrom, headView};
+ghost use Rattle.index.specs.Unused.{unusedView};
 
 // Where a walk stands: the place of the next slot, its number, and how many slots are left.
 pub struct Cursor {
@@ -21,61 +20,50 @@ pub struct Cursor {
     pub left: u64,
 }
 
-// An entry as it stands in its first slot; the stamp is held as its bits.
-pub struct Head {
-    pub at: Offset,
-    pub kind: u8,
-    pub slot: Slot,
-    pub slots: u64,
-    pub stamp: u64,
-    pub start: Block,
-    pub end: Block,
-    pub length: u64,
-}
-
 pub enum Next {
     End,
     Found(Head, Cursor),
 }
 
-// A name's field and continuing slots: there is a zero, and what stands before it is a path.
-pub fn name_good(field: &[u8]) -> bool
-    ensures { λ r. ⌜ r ≡ nameGood (now (field .entry)) ⌝ }
+// The cursor n slots further.
+fn past(c: Cursor, n: u64) -> Cursor
+    requires { ⌜ (n ≤ c .left) × (c .at .0 + 64 * c .left ≤ 16_777_216) × (c .slot .0 + c .left ≤ 16_777_216) ⌝ }
+    ensures { λ r. ⌜ Past c n r ⌝ }
 {
-    let n = fields::zero_at(field);
-    if n == field.len() {
-        return false;
+    Cursor {
+        at: c.at.after_slots(n),
+        slot: c.slot.after(n),
+        left: c.left - n,
     }
-    names::path_good(&field[..n])
 }
 
+// ---- whether the index is sound
+
 // The slots of the run at `at`, 0 where it is at fault.
-fn run_step(img: &[u8], at: usize, left: u64) -> u64
-    requires { ⌜ (0 < left) × (at + 64 * left ≤ length (now img)) ⌝ }
-    ensures { λ r. ⌜ (r ≡ runStep left (drop at (now (img .entry)))) × (r ≤ left) ⌝ }
+fn run_step(img: &[u8], at: Offset, left: u64) -> u64
+    requires { ⌜ (0 < left) × (at .0 + 64 * left ≤ length (now img)) ⌝ }
+    ensures { λ r. ⌜ (r ≡ runStep left (drop (at .0) (now (img .entry)))) × (r ≤ left) ⌝ }
 {
-    let slots = 1 + fields::wide(img[at + 1]);
-    if left < slots {
+    let n = slots::slots_at(img, at);
+    if left < n {
         return 0;
     }
-    let name = at + slots::name_at(img[at]) as usize;
-    let end = at + (64 * slots) as usize;
-    if !name_good(&img[name..end]) {
+    if !slots::name_good(slots::name_field(img, at)) {
         return 0;
     }
-    slots
+    n
 }
 
 // The slots of what stands at `at`, 0 where it is at fault.
-fn slot_step(img: &[u8], at: usize, left: u64) -> u64
-    requires { ⌜ (0 < left) × (at + 64 * left ≤ length (now img)) ⌝ }
-    ensures { λ r. ⌜ (r ≡ stepAt left (drop at (now (img .entry)))) × (r ≤ left) ⌝ }
+fn slot_step(img: &[u8], at: Offset, left: u64) -> u64
+    requires { ⌜ (0 < left) × (at .0 + 64 * left ≤ length (now img)) ⌝ }
+    ensures { λ r. ⌜ (r ≡ stepAt left (drop (at .0) (now (img .entry)))) × (r ≤ left) ⌝ }
 {
-    let kind = img[at];
+    let kind = slots::kind_at(img, at);
     if slots::is_run(kind) {
         return run_step(img, at, left);
     }
-    if kind == 0x18 {
+    if kind == slots::UNUSABLE {
         return 1;
     }
     if slots::is_stray(kind) {
@@ -89,84 +77,26 @@ pub fn walk_sound(img: &[u8], from: Cursor) -> bool
     requires { ⌜ Inside (now img) from ⌝ }
     ensures { λ r. ⌜ r ≡ faultless (itemsFrom (now (img .entry)) from) ⌝ }
 {
-    let mut at = from.at.0;
-    let mut slot = from.slot.0;
-    let mut left = from.left;
-    while 0 < left {
-        let n = slot_step(img, at, left);
+    let mut c = from;
+    while 0 < c.left {
+        let n = slot_step(img, c.at, c.left);
         if n == 0 {
             return false;
         }
-        at += (64 * n) as usize;
-        slot += n;
-        left -= n;
+        c = past(c, n);
     }
     true
 }
 
-// A field of a file at `at`; a directory has 0.
-fn file_field(img: &[u8], at: usize, o: usize) -> u64
-    requires { ⌜ (at + 64 ≤ length (now img)) × (o + 8 ≤ 64) ⌝ }
-    ensures { λ r. ⌜ r ≡ fileField (drop at (now (img .entry))) o ⌝ }
-{
-    if slots::is_file(img[at]) {
-        return fields::le64_at(img, at + o);
-    }
-    0
-}
-
-fn run_head(img: &[u8], at: usize, slot: u64) -> Head
-    requires { ⌜ (at + 64 ≤ length (now img)) × (runType (getD (now img) at 0) ≡ true) ⌝ }
-    ensures { λ r. ⌜ headView (now (img .entry)) r ≡ entryAt slot (drop at (now (img .entry))) ⌝ }
-    ensures place { λ r. ⌜ (r .at .0 ≡ at) × (r .slots ≤ 256) ⌝ }
-{
-    Head {
-        at: Offset(at),
-        kind: img[at],
-        slot: Slot(slot),
-        slots: 1 + fields::wide(img[at + 1]),
-        stamp: fields::le64_at(img, at + 2),
-        start: Block(file_field(img, at, 10)),
-        end: Block(file_field(img, at, 18)),
-        length: file_field(img, at, 26),
-    }
-}
-
-// The numbers of the entry whose first slot is at `at`; an unusable entry has a region only.
-pub fn head_at(img: &[u8], at: usize, slot: u64) -> Head
-    requires { ⌜ at + 64 ≤ length (now img) ⌝ }
-    ensures { λ r. ⌜ headView (now (img .entry)) r ≡ headOf slot (drop at (now (img .entry))) ⌝ }
-    ensures place { λ r. ⌜ (r .at .0 ≡ at) × (r .slots ≤ 256) ⌝ }
-{
-    if slots::is_run(img[at]) {
-        return run_head(img, at, slot);
-    }
-    Head {
-        at: Offset(at),
-        kind: 0x18,
-        slot: Slot(slot),
-        slots: 1,
-        stamp: 0,
-        start: Block(fields::le64_at(img, at + 10)),
-        end: Block(fields::le64_at(img, at + 18)),
-        length: 0,
-    }
-}
+// ---- from entry to entry
 
 // The entry at the cursor, and the cursor behind it.
 fn found(img: &[u8], c: Cursor) -> Next
     requires { ⌜ Walks (now img) c × (0 < c .left) × (entryType (getD (now img) (c .at .0) 0) ≡ true) ⌝ }
     ensures { λ r. ⌜ Told (now (img .entry)) c r ⌝ }
 {
-    let at = c.at.0;
-    let slot = c.slot.0;
-    let head = head_at(img, at, slot);
-    let n = head.slots;
-    let rest = Cursor {
-        at: Offset(at + (64 * n) as usize),
-        slot: Slot(slot + n),
-        left: c.left - n,
-    };
+    let head = slots::head_at(img, c.at, c.slot);
+    let rest = past(c, head.slots);
     Next::Found(head, rest)
 }
 
@@ -175,23 +105,41 @@ pub fn next_entry(img: &[u8], from: Cursor) -> Next
     requires { ⌜ Walks (now img) from ⌝ }
     ensures { λ r. ⌜ Told (now (img .entry)) from r ⌝ }
 {
-    let mut at = from.at.0;
-    let mut slot = from.slot.0;
-    let mut left = from.left;
-    while 0 < left {
-        if slots::is_entry(img[at]) {
-            return found(
-                img,
-                Cursor {
-                    at: Offset(at),
-                    slot: Slot(slot),
-                    left,
-                },
-            );
+    let mut c = from;
+    while 0 < c.left {
+        if slots::is_entry(slots::kind_at(img, c.at)) {
+            return found(img, c);
         }
-        at += 64;
-        slot += 1;
-        left -= 1;
+        c = past(c, 1);
     }
     Next::End
+}
+
+// ---- unused slots
+
+pub enum Unused {
+    Nothing,
+    At(Slot),
+}
+
+// The lowest n unused slots in a row; all from `first` up to the cursor's are unused.
+pub fn lowest_unused(img: &[u8], from: Cursor, n: u64) -> Unused
+    requires { ⌜ Walks (now img) from × (1 ≤ n) ⌝ }
+    ensures { λ r. ⌜ unusedView r ≡ lowestUnused n (itemsFrom (now (img .entry)) from) ⌝ }
+{
+    let mut c = from;
+    let mut first = from.slot;
+    while 0 < c.left {
+        if slots::is_entry(slots::kind_at(img, c.at)) {
+            let head = slots::head_at(img, c.at, c.slot);
+            c = past(c, head.slots);
+            first = c.slot;
+        } else {
+            c = past(c, 1);
+            if first.slots_to(c.slot) == n {
+                return Unused::At(first);
+            }
+        }
+    }
+    Unused::Nothing
 }

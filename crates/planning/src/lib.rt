@@ -3,6 +3,7 @@
 use free_runs::Free;
 use geometry::Geometry;
 use index::Cursor;
+use index::Unused;
 use judging::Judged;
 use placing::Site;
 use units::Block;
@@ -20,45 +21,11 @@ ghost use Rattle.index.specs.View.{itemsFrom};
 ghost use Rattle.index.specs.Steps.{Walks, entriesFrom};
 ghost use Rattle.free_runs.specs.View.{freeView};
 ghost use Rattle.judging.specs.View.{Opened, volumeOf};
-ghost use Rattle.planning.specs.Unused.{unusedView};
 ghost use Rattle.planning.specs.Places.{placeView, Begins, Growable};
 ghost use Rattle.planning.specs.Planned.{Planned, Clear};
 ghost use Rattle.placing.specs.Site.{newOf};
 
 // ---- a place for the run
-
-pub enum Unused {
-    Nothing,
-    At(Slot),
-}
-
-// The lowest n unused slots in a row; all from `first` up to the slot are unused.
-pub fn lowest_unused(img: &[u8], from: Cursor, n: u64) -> Unused
-    requires { ⌜ Walks (now img) from × (1 ≤ n) ⌝ }
-    ensures { λ r. ⌜ unusedView r ≡ lowestUnused n (itemsFrom (now (img .entry)) from) ⌝ }
-{
-    let mut at = from.at.0;
-    let mut slot = from.slot.0;
-    let mut left = from.left;
-    let mut first = slot;
-    while 0 < left {
-        if slots::is_entry(img[at]) {
-            let slots = index::head_at(img, at, slot).slots;
-            at += (64 * slots) as usize;
-            slot += slots;
-            left -= slots;
-            first = slot;
-        } else {
-            at += 64;
-            slot += 1;
-            left -= 1;
-            if slot - first == n {
-                return Unused::At(Slot(first));
-            }
-        }
-    }
-    Unused::Nothing
-}
 
 // Where a run goes, and the geometry after any growth of the index.
 pub enum RunPlace {
@@ -90,7 +57,7 @@ fn place_run(img: &[u8], g: Geometry, from: Cursor, n: u64) -> RunPlace
     requires { ⌜ Opened (now img) g × Begins (now img) g from × (1 ≤ n) × (n ≤ 5) ⌝ }
     ensures { λ r. ⌜ placeView r ≡ placeRun (length (now (img .entry))) (volumeOf (now (img .entry)) (geometryView g)) n ⌝ }
 {
-    match lowest_unused(img, from, n) {
+    match index::lowest_unused(img, from, n) {
         Unused::At(slot) => RunPlace::At(slot, g),
         Unused::Nothing => grown_place(img.len() as u64, g, n),
     }

@@ -143,3 +143,12 @@ module _ (s : List ℕ) (h : Head) (head : HeadIn s h) (run : runType (h .kind) 
   pub path-is : headView s h .path ≡ upToZero (nameField (drop (h .at .0) s))
   unfolding headView pathAt
   path-is = pick-true _ _ run
+
+-- ---- how many slots an entry has
+pub entry-slots : (k : ℕ) (a : List ℕ) → entryAt k a .slots ≡ runSlots a
+unfolding entryAt
+entry-slots k a = refl
+
+pub unusable-slots : (k : ℕ) (a : List ℕ) → unusableAt k a .slots ≡ 1
+unfolding unusableAt
+unusable-slots k a = refl

@@ -1,61 +1,54 @@
-use borrow.Author.Needs.{needs}
-use Rattle.index.specs.Steps.{Told, Walks, entriesFrom, cursorAt, skip-entries, skip-walks, no-more, told-before}
-use Prim.Native.Nat.{_+_, _*_, _≤_}
-use mathlib.Core.Path.{_≡_, refl, sym, _∙_}
+use mathlib.Core.Path.{_≡_, refl, sym, ap, _∙_}
 use native.Mathlib.Omega.{arith}
 use denote.Ref.{now}
+use Prim.Native.Nat.{_+_, _*_, _≤_}
+use lib.ListN.{getD}
+use Rattle.rules.specs.Index.Items.{entryType}
+use Rattle.index.specs.Steps.{Told, Walks, entriesFrom, skip-entries, skip-walks, no-more, told-before}
+use borrow.Author.Needs.{needs}
 use Rattle.index.proofs.next_entry.Statement.{statement}
 use Rattle.index.proofs.next_entry.Tie as tie
 
 abbrev Inv-loop : tie.InvT-loop
-Inv-loop img at₀ slot₀ left₀ at slot left =
-    Walks img (cursorAt at slot left)
-    × (entriesFrom img (cursorAt at slot left) ≡ entriesFrom img (cursorAt at₀ slot₀ left₀))
-    × (left ≤ left₀)
-    × (at + 64 * slot₀ ≡ at₀ + 64 * slot)
+Inv-loop img c₀ c = Walks img c × (entriesFrom img c ≡ entriesFrom img c₀) × (c .left ≤ c₀ .left) × (c .at .0 + 64 * c₀ .slot .0 ≡ c₀ .at .0 + 64 * c .slot .0)
 
 abbrev μ-loop : tie.MeasureT-loop
-μ-loop img at₀ slot₀ left₀ at slot left = left
+μ-loop img c₀ c = c .left
 
 loop-holds : tie.Need-loop-holds Inv-loop μ-loop
 loop-holds c = (c .before .pre, refl, omega arith, refl)
 
-shared-slice-read-is-entry : tie.Need-shared-slice-read-is-entry Inv-loop μ-loop
-shared-slice-read-is-entry c = omega (arith, c .before .before .loop .inv .0 .inside .fits)
+kind-at-requires : tie.Need-kind-at-requires Inv-loop μ-loop
+kind-at-requires c κs = omega (arith, c .before .before .loop .inv .0 .inside .fits, c .if1 .taken)
 
 is-entry-requires : tie.Need-is-entry-requires Inv-loop μ-loop
-is-entry-requires c κs = tt
+is-entry-requires c κs = search needs
+
+type-is : (c : tie.After-is-entry Inv-loop μ-loop) → entryType (getD (now (c .before .before .before .before .before .before .args .img)) (c .before .before .before .before .loop .c .at .0) 0) ≡ c .is-entry .result
+type-is c = sym (ap entryType (c .before .kind-at .ensures)) ∙ sym (c .is-entry .ensures)
 
 found-requires : tie.Need-found-requires Inv-loop μ-loop
-found-requires c κs = (c .before .before .before .before .loop .inv .0, c .before .before .before .loop-test .taken, sym (c .before .is-entry .ensures) ∙ c .if1 .taken)
+found-requires c κs = (c .before .before .before .before .before .loop .inv .0, c .before .before .before .if1 .taken, type-is (c .before) ∙ c .if2 .taken)
 
 returns : tie.Need-returns Inv-loop μ-loop
-returns c = let l = c .before .before .before .before .before .loop in
-    told-before _ _ _ _ (l .inv .1) (l .inv .2) (l .inv .3) (c .found .ensures)
+returns c = let l = c .before .before .before .before .before .before .loop in told-before _ _ _ _ (l .inv .1) (l .inv .2) (l .inv .3) (c .found .ensures)
 
-add-at : tie.Need-add-at Inv-loop μ-loop
-add-at c = omega (arith, c .before .before .before .before .loop .inv .0 .inside .fits, c .before .before .before .before .loop .inv .0 .inside .short)
-
-add-slot : tie.Need-add-slot Inv-loop μ-loop
-add-slot c = omega (arith, c .before .before .before .before .loop .inv .0 .inside .numbers)
-
-sub-left : tie.Need-sub-left Inv-loop μ-loop
-sub-left c = search needs
+past-requires : tie.Need-past-requires Inv-loop μ-loop
+past-requires c κs = let i = c .before .before .before .before .before .loop .inv .0 .inside in omega (arith, i .fits, i .short, i .numbers, c .before .before .before .if1 .taken)
 
 loop-less : tie.Need-loop-less Inv-loop μ-loop
-loop-less c = search needs
+loop-less c = omega (arith, c .past .ensures .left, c .before .before .before .before .if1 .taken)
 
 loop-again : tie.Need-loop-again Inv-loop μ-loop
-loop-again c = let l = c .before .before .before .before .loop in
-    let s = now (c .before .before .before .before .before .before .args .img) in
-    let t = sym (c .before .is-entry .ensures) ∙ c .if1 .left in
-    let m = c .before .before .before .loop-test .taken in
-    (skip-walks s (l .at) (l .slot) (l .left) (l .inv .0) m t, skip-entries s (l .at) (l .slot) (l .left) (l .inv .0) m t ∙ l .inv .1, omega (arith, l .inv .2), omega (arith, l .inv .3))
+loop-again c =     let l = c .before .before .before .before .before .before .loop in
+    let m = c .before .before .before .before .if1 .taken in
+    let t = type-is (c .before .before) ∙ c .before .if2 .left in
+    let p = c .past .ensures in
+    (skip-walks _ (l .c) (l .inv .0) m t _ p, skip-entries _ (l .c) (l .inv .0) m t _ p ∙ l .inv .1, omega (arith, l .inv .2, p .left), omega (arith, l .inv .3, p .at, p .slot))
 
 returns-2 : tie.Need-returns-2 Inv-loop μ-loop
 unfolding Told
-returns-2 c = let l = c .before .loop in
-    sym (l .inv .1) ∙ no-more _ (l .at) (l .slot) (l .left) (omega arith)
+returns-2 c = let l = c .before .before .loop in sym (l .inv .1) ∙ no-more _ (l .c) (omega arith)
 
 pub next-entry-spec : {M : Type 1} → statement M
 next-entry-spec =
@@ -64,13 +57,11 @@ next-entry-spec =
     Inv-loop
     μ-loop
     loop-holds
-    shared-slice-read-is-entry
+    kind-at-requires
     is-entry-requires
     found-requires
     returns
-    add-at
-    add-slot
-    sub-left
+    past-requires
     loop-less
     loop-again
     returns-2)

@@ -17,11 +17,7 @@ use Rattle.laws.proofs.Index.Items.{slotsIn, slotsIn-nil, slotsIn-cons,
 use Rattle.laws.proofs.Index.Walks.{walk-append, walk-first, walk-rest, walk-split}
 use Rattle.laws.proofs.Index.Places.{before-sound, item-slot, slot-there}
 pub use Rattle.rules.specs.Index.Laws.{length-unusedBytes}
-
--- the m unused slots k, k + 1, …
-unfoldable pub unusedFrom : ℕ → ℕ → List Item
-unusedFrom k zero = []
-unusedFrom k (suc m) = unused k ∷ unusedFrom (k + 1) m
+unfoldable pub use Rattle.rules.specs.Index.Laws.{unusedFrom}
 
 pub unusedFrom-sound : (k m : ℕ) → noFault (unusedFrom k m)
 unfolding unusedFrom all isFault

@@ -7,7 +7,7 @@ use native.Mathlib.Omega.{arith}
 use lib.ListN.{length, length-append}
 use Rattle.rules.specs.Lists.{pick, padded}
 use Rattle.rules.specs.Lists.Laws.{length-padded}
-use Rattle.rules.specs.Index.{fileType, nameAt, continuing, slotBytes, typeUnused, unusedBytes}
+use Rattle.rules.specs.Index.{Item, unused, fileType, nameAt, continuing, slotBytes, typeUnused, unusedBytes}
 
 -- ---- where a name starts
 pub name-at-file : (t : ℕ) → fileType t ≡ true → nameAt t ≡ 34
@@ -57,6 +57,11 @@ module _ (t n : ℕ) where
   continuing-new h = omega (arith, name-at-bounds t)
 
 -- ---- unused slots
+-- the m unused slots k, k + 1, …
+unfoldable pub unusedFrom : ℕ → ℕ → List Item
+unusedFrom k zero = []
+unusedFrom k (suc m) = unused k ∷ unusedFrom (k + 1) m
+
 pub length-unusedBytes : (m : ℕ) → length (unusedBytes m) ≡ slotBytes * m
 unfolding unusedBytes
 length-unusedBytes zero = refl
