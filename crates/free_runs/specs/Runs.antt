@@ -97,46 +97,43 @@ run-free es b (suc k) =
     rw (run-free es (suc b) k) (not-or (any (holds b) es) (any (meets (suc b) k) es))
     ∙ ap not (sym (any-or (meets b (suc k)) (holds b) (meets (suc b) k) (meets-suc b k) es))
 
--- the end of the first region that reaches into them; 0 where none does, as a region with a block ends past 0
+-- the end of the first region that reaches into them; b where none does
 unfoldable pub blockedTo : ℕ → ℕ → List Entry → ℕ
-blockedTo b k [] = 0
+blockedTo b k [] = b
 blockedTo b k (e ∷ es) = pick (meets b k e) (e .end) (blockedTo b k es)
 
-pub blocked-end : (b k : ℕ) (es : List Entry) → es ≡ [] → blockedTo b k es ≡ 0
+pub blocked-end : (b k : ℕ) (es : List Entry) → es ≡ [] → b ≡ blockedTo b k es
 unfolding blockedTo
 blocked-end b k es h = rw h
 
 module _ (b k : ℕ) (es : List Entry) (x : Entry) (xs : List Entry) (cons : es ≡ x ∷ xs) where
-  pub blocked-here : meets b k x ≡ true → blockedTo b k es ≡ x .end
+  pub blocked-here : meets b k x ≡ true → x .end ≡ blockedTo b k es
   unfolding blockedTo
-  blocked-here h = rw cons (pick-true _ _ h)
+  blocked-here h = sym (rw cons (pick-true _ _ h))
 
   pub blocked-next : meets b k x ≡ false → blockedTo b k xs ≡ blockedTo b k es
   unfolding blockedTo
   blocked-next h = rw cons (sym (pick-false _ _ h))
 
-pub blocked-none : (b k : ℕ) (es : List Entry) → blockedTo b k es ≡ 0 → any (meets b k) es ≡ false
+blocked-none : (b k : ℕ) (es : List Entry) → blockedTo b k es ≤ b → any (meets b k) es ≡ false
 unfolding any blockedTo
 blocked-none b k [] h = refl
 blocked-none b k (e ∷ es) h = go (blocked-none b k es) (meets b k e) refl
   where
-    go : (blockedTo b k es ≡ 0 → any (meets b k) es ≡ false) → (t : Bool) → meets b k e ≡ t → any (meets b k) (e ∷ es) ≡ false
-    go r true m = absurd (omega (arith, meets-says b k e m, sym (pick-true (e .end) (blockedTo b k es) m) ∙ h))
-    go r false m = rw m (r (sym (pick-false (e .end) (blockedTo b k es) m) ∙ h))
+    go : (blockedTo b k es ≤ b → any (meets b k) es ≡ false) → (t : Bool) → meets b k e ≡ t → any (meets b k) (e ∷ es) ≡ false
+    go r true m = absurd (omega (arith, meets-says b k e m, pick-true (e .end) (blockedTo b k es) m))
+    go r false m = rw m (r (rw (pick-false (e .end) (blockedTo b k es) m) at h))
 
-pub blocked-some : (b k : ℕ) (es : List Entry) → (blockedTo b k es ≡ 0 → ⊥)
-    → (b < blockedTo b k es) × ((v : ℕ) → b ≤ v → v < blockedTo b k es → any (meets v k) es ≡ true)
+blocked-some : (b k : ℕ) (es : List Entry) → b < blockedTo b k es → (v : ℕ) → b ≤ v → v < blockedTo b k es → any (meets v k) es ≡ true
 unfolding any blockedTo
-blocked-some b k [] h = absurd (h refl)
-blocked-some b k (e ∷ es) h = go (blocked-some b k es) (meets b k e) refl
+blocked-some b k [] h v l u = absurd (omega arith)
+blocked-some b k (e ∷ es) h v l u = go (blocked-some b k es) (meets b k e) refl
   where
-    go : ((blockedTo b k es ≡ 0 → ⊥) → (b < blockedTo b k es) × ((v : ℕ) → b ≤ v → v < blockedTo b k es → any (meets v k) es ≡ true))
-        → (t : Bool) → meets b k e ≡ t
-        → (b < blockedTo b k (e ∷ es)) × ((v : ℕ) → b ≤ v → v < blockedTo b k (e ∷ es) → any (meets v k) (e ∷ es) ≡ true)
-    go r true m = rw (pick-true (e .end) (blockedTo b k es) m) (omega (arith, meets-says b k e m), λ v l u. or-left (meets v k e) (any (meets v k) es) (meets-on b k v e m l u))
+    go : (b < blockedTo b k es → (v : ℕ) → b ≤ v → v < blockedTo b k es → any (meets v k) es ≡ true) → (t : Bool) → meets b k e ≡ t → any (meets v k) (e ∷ es) ≡ true
+    go r true m = or-left (meets v k e) (any (meets v k) es) (meets-on b k v e m l (rw (pick-true (e .end) (blockedTo b k es) m) at u))
     go r false m =
-        let q = r (λ z. h (pick-false (e .end) (blockedTo b k es) m ∙ z)) in
-        rw (pick-false (e .end) (blockedTo b k es) m) (q .0, λ v l u. or-right (meets v k e) (any (meets v k) es) (q .1 v l u))
+        let p = pick-false (e .end) (blockedTo b k es) m in
+        or-right (meets v k e) (any (meets v k) es) (r (rw p at h) v l (rw p at u))
 
 -- ---- the lowest run: the answer from a later start is the answer from the start
 module _ (es : List Entry) (k c : ℕ) where
@@ -172,10 +169,8 @@ module _ (es : List Entry) (k c : ℕ) where
       ∙ skip (d - b) b (λ v m u. h v m (omega arith))
 
   -- by what blocks the start
-  pub lowest-found : (b : ℕ) → b + k ≤ c → blockedTo b k es ≡ 0 → lowestFree es k b c ≡ some b
+  pub lowest-found : (b : ℕ) → b + k ≤ c → blockedTo b k es ≤ b → lowestFree es k b c ≡ some b
   lowest-found b h z = lowest-here b h (run-free es b k ∙ ap not (blocked-none b k es z))
 
-  pub lowest-jump : (b : ℕ) → (blockedTo b k es ≡ 0 → ⊥) → lowestFree es k (blockedTo b k es) c ≡ lowestFree es k b c
-  lowest-jump b h =
-      let p = blocked-some b k es h in
-      lowest-skip b (blockedTo b k es) (omega arith) (λ v l u. run-free es v k ∙ ap not (p .1 v l u))
+  pub lowest-jump : (b : ℕ) → b < blockedTo b k es → lowestFree es k (blockedTo b k es) c ≡ lowestFree es k b c
+  lowest-jump b h = lowest-skip b (blockedTo b k es) (omega arith) (λ v l u. run-free es v k ∙ ap not (blocked-some b k es h v l u))

@@ -1,15 +1,15 @@
 // Free runs, blocks held, and the blocks that a file needs.
 
 use index::Cursor;
-use index::Head;
 use index::Next;
+use slots::Head;
 use units::Block;
 ghost use mathlib.Core.Path.{_≡_};
 ghost use mathlib.Core.List.{List};
-ghost use Prim.Native.Nat.{ℕ, _+_, _^_, _≤_, _<_, max};
-ghost use Rattle.rules.specs.Regions.{holds, busy, heldBlocks, lowestFree, blocksNeeded};
+ghost use Prim.Native.Nat.{ℕ, _+_, _^_, _<_};
+ghost use Rattle.rules.specs.Regions.{heldBlocks, lowestFree, blocksNeeded};
 ghost use Rattle.rules.specs.Writing.{undeleted, leastEnd};
-ghost use Rattle.index.specs.View.{headView};
+ghost use Rattle.slots.specs.View.{headView};
 ghost use Rattle.index.specs.Steps.{Walks, entriesFrom};
 ghost use Rattle.free_runs.specs.View.{freeView};
 ghost use Rattle.free_runs.specs.Runs.{meets, blockedTo};
@@ -20,74 +20,41 @@ pub enum Free {
     At(Block),
 }
 
-// The blocks of `len` bytes that a file of so many bytes needs.
+// The blocks of `len` bytes that a file of so many bytes needs. It is rounded up without a sum, which could wrap.
 pub fn blocks_needed(len: u64, bytes: u64) -> u64
-    requires { ⌜ (0 < len) × (len ≤ 4096) × (bytes ≤ 2 ^ 63) ⌝ }
+    requires { ⌜ 0 < len ⌝ }
     ensures { λ r. ⌜ r ≡ blocksNeeded len bytes ⌝ }
 {
-    (bytes + len - 1) / len
-}
-
-fn larger(a: u64, b: u64) -> u64
-    ensures { λ r. ⌜ r ≡ max a b ⌝ }
-{
-    if a < b { b } else { a }
-}
-
-// Whether a region holds block b.
-fn holds_block(h: Head, b: u64) -> bool
-    ensures { λ r. ⌜ ((s : List ℕ) → r ≡ holds b (headView s h)) ⌝ }
-{
-    if b < h.start.0 {
-        return false;
+    if bytes % len == 0 {
+        return bytes / len;
     }
-    b < h.end.0
-}
-
-// Whether block b is in some region.
-pub fn is_busy(img: &[u8], from: Cursor, b: Block) -> bool
-    requires { ⌜ Walks (now img) from ⌝ }
-    ensures { λ r. ⌜ r ≡ busy (entriesFrom (now (img .entry)) from) (b .0) ⌝ }
-{
-    let block = b.0;
-    let mut c = from;
-    loop {
-        match index::next_entry(img, c) {
-            Next::End => return false,
-            Next::Found(e, rest) => {
-                if holds_block(e, block) {
-                    return true;
-                }
-                c = rest;
-            }
-        }
-    }
+    bytes / len + 1
 }
 
 // Whether a region reaches into the k blocks from b on.
-fn reaches(h: Head, b: u64, k: u64) -> bool
-    requires { ⌜ b + k < 2 ^ 64 ⌝ }
-    ensures { λ r. ⌜ ((s : List ℕ) → r ≡ meets b k (headView s h)) ⌝ }
+fn reaches(h: Head, b: Block, k: u64) -> bool
+    requires { ⌜ b .0 + k < 2 ^ 64 ⌝ }
+    ensures { λ r. ⌜ ((s : List ℕ) → r ≡ meets (b .0) k (headView s h)) ⌝ }
 {
-    let first = larger(b, h.start.0);
-    if b + k <= first {
+    let first = b.later(h.start);
+    if !first.is_before(b.after(k)) {
         return false;
     }
-    first < h.end.0
+    first.is_before(h.end)
 }
 
-// The end of the first region that reaches into the k blocks from b on, 0 where none does.
-fn blocked_to(img: &[u8], from: Cursor, b: u64, k: u64) -> u64
-    requires { ⌜ Walks (now img) from × (b + k < 2 ^ 64) ⌝ }
-    ensures { λ r. ⌜ r ≡ blockedTo b k (entriesFrom (now (img .entry)) from) ⌝ }
+// The end of the first region that reaches into the k blocks from b on; b itself where none does.
+fn blocked_to(img: &[u8], from: Cursor, b: Block, k: u64) -> Block
+    requires { ⌜ Walks (now img) from × (b .0 + k < 2 ^ 64) ⌝ }
+    ensures { λ r. ⌜ r .0 ≡ blockedTo (b .0) k (entriesFrom (now (img .entry)) from) ⌝ }
 {
     let mut c = from;
     loop {
         match index::next_entry(img, c) {
-            Next::End => return 0,
+            Next::End => return b,
             Next::Found(e, rest) => {
                 if reaches(e, b, k) {
-                    return e.end.0;
+                    return e.end;
                 }
                 c = rest;
             }
@@ -101,15 +68,11 @@ pub fn lowest_free(img: &[u8], from: Cursor, k: u64, low: Block, ceiling: Block)
     requires { ⌜ Walks (now img) from ⌝ }
     ensures { λ r. ⌜ freeView r ≡ lowestFree (entriesFrom (now (img .entry)) from) k (low .0) (ceiling .0) ⌝ }
 {
-    if ceiling.0 < k {
-        return Free::Nothing;
-    }
-    let top = ceiling.0 - k;
-    let mut b = low.0;
-    while b <= top {
+    let mut b = low;
+    while b.has_room(k, ceiling) {
         let end = blocked_to(img, from, b, k);
-        if end == 0 {
-            return Free::At(Block(b));
+        if !b.is_before(end) {
+            return Free::At(b);
         }
         b = end;
     }
@@ -123,10 +86,7 @@ fn file_blocks(h: Head) -> u64
     if !slots::is_file(h.kind) {
         return 0;
     }
-    if h.end.0 < h.start.0 {
-        return 0;
-    }
-    h.end.0 - h.start.0
+    h.end.blocks_past(h.start)
 }
 
 // The blocks of live and deleted files from the cursor on.
@@ -148,30 +108,27 @@ pub fn held_blocks(img: &[u8], from: Cursor) -> u64
 }
 
 // The end of a region that a reclaim keeps, 0 of a deleted entry.
-fn kept_end(h: Head) -> u64
-    ensures { λ r. ⌜ ((s : List ℕ) → r ≡ keptEnd (headView s h)) ⌝ }
+fn kept_end(h: Head) -> Block
+    ensures { λ r. ⌜ ((s : List ℕ) → r .0 ≡ keptEnd (headView s h)) ⌝ }
 {
-    if h.kind == 0x19 {
-        return 0;
+    if slots::is_deleted(h.kind) {
+        return Block::at(0);
     }
-    if h.kind == 0x1A {
-        return 0;
-    }
-    h.end.0
+    h.end
 }
 
 // The least end that the data area can have once deleted entries are gone.
-pub fn last_end(img: &[u8], from: Cursor) -> u64
+pub fn last_end(img: &[u8], from: Cursor) -> Block
     requires { ⌜ Walks (now img) from ⌝ }
-    ensures { λ r. ⌜ r ≡ leastEnd (undeleted (entriesFrom (now (img .entry)) from)) ⌝ }
+    ensures { λ r. ⌜ r .0 ≡ leastEnd (undeleted (entriesFrom (now (img .entry)) from)) ⌝ }
 {
     let mut c = from;
-    let mut last = 0;
+    let mut last = Block::at(0);
     loop {
         match index::next_entry(img, c) {
             Next::End => return last,
             Next::Found(e, rest) => {
-                last = larger(last, kept_end(e));
+                last = last.later(kept_end(e));
                 c = rest;
             }
         }

@@ -1,10 +1,10 @@
 -- The code's geometry in the rules' words, and the last tests of a good one under a name of their own.
-use Prim.Native.Nat.{ℕ, _+_, _-_, _*_, _/_, _%_, _≤_, _<_}
+use Prim.Native.Nat.{ℕ, _*_, _/_, _%_, _<_}
 use mathlib.Core.Path.{_≡_, refl, sym, _∙_}
 use native.Mathlib.Omega.{arith}
 use native.Mathlib.Nat.{mul-mod-left, div-add-mod', div-eq-of-eq-mul-left}
-use native.Mathlib.Decide.{decLe, ℕ-discrete}
-use borrow.Author.Tests.{le-leb, lt-leb, eq-eqb, ne-eqb}
+use native.Mathlib.Decide.{ℕ-discrete}
+use borrow.Author.Tests.{eq-eqb, ne-eqb}
 use mathlib.Core.Bool.{Bool, true, false, _&&_}
 use lib.Dec.{eqb, leb}
 use Rattle.rules.specs.Fields.{signedOf}
@@ -25,8 +25,7 @@ geometryView g = record {
 unfoldable pub areasFit : ℕ → Geometry → Bool
 areasFit n g = indexGood (g .indexBytes) && leb (g .indexBytes) n && leb (dataEnd g) (ceilingBlock n g)
 
--- ---- the tests in the code's forms
--- a product is tested by a quotient and a remainder, which cannot wrap
+-- ---- a product is tested by a quotient and a remainder, which cannot wrap
 pub product-not : (t b n : ℕ) → (n % b ≡ 0 → ⊥) → false ≡ eqb (t * b) n
 product-not t b n h = sym (ne-eqb (t * b) n (λ e. h (rw (← e) (mul-mod-left t b))))
 
@@ -39,14 +38,3 @@ product-is t b n h z = go (ℕ-discrete t (n / b))
     go : Dec (t ≡ n / b) → eqb t (n / b) ≡ eqb (t * b) n
     go (yes e) = eq-eqb t (n / b) e ∙ sym (eq-eqb (t * b) n (rw e whole))
     go (no d) = ne-eqb t (n / b) d ∙ sym (ne-eqb (t * b) n (λ e. d (sym (div-eq-of-eq-mul-left h (sym e)))))
-
--- a sum is tested by a difference
-pub sum-over : (a b n : ℕ) → n < a → false ≡ leb (a + b) n
-sum-over a b n h = sym (lt-leb (a + b) n (omega arith))
-
-pub sum-within : (a b n : ℕ) → a ≤ n → leb b (n - a) ≡ leb (a + b) n
-sum-within a b n h = go (decLe b (n - a))
-  where
-    go : Dec (b ≤ n - a) → leb b (n - a) ≡ leb (a + b) n
-    go (yes e) = le-leb b (n - a) e ∙ sym (le-leb (a + b) n (omega arith))
-    go (no d) = lt-leb b (n - a) (omega arith) ∙ sym (lt-leb (a + b) n (omega arith))

@@ -2,12 +2,31 @@
 
 use units::Block;
 ghost use mathlib.Core.Path.{_≡_};
-ghost use Prim.Native.Nat.{_+_, _-_, _*_, _≤_, _<_, _^_};
+ghost use Prim.Native.Nat.{_+_, _*_, _≤_, _<_, _^_};
 ghost use mathlib.Core.Bool.{true};
-ghost use lib.Dec.{eqb, leb};
-ghost use Rattle.rules.specs.SuperBlock.{writable, blockLength, ceilingBlock, indexGood, geometryGood, growIndex, extendData, trimData, withStamp, restamp};
+ghost use lib.Dec.{eqb};
+ghost use Rattle.rules.specs.SuperBlock.{blockLength, dataEnd, ceilingBlock, writable, indexGood, geometryGood, growIndex, extendData, trimData, withStamp, restamp};
 ghost use Rattle.rules.specs.Fields.{signedOf};
 ghost use Rattle.geometry.specs.View.{geometryView, areasFit};
+
+// The latest version that is written; a later one is only read.
+const WRITABLE: u8 = 0x10;
+
+// The least bytes of the reserved area: the boot code and the super-block.
+const LEAST_RESERVED: u64 = 512;
+
+// The blocks besides the reserved ones that a volume has at least.
+const LEAST_REST: u64 = 2;
+
+// The bytes of an index area, at least and at most.
+pub const LEAST_INDEX: u64 = 128;
+
+pub const MOST_INDEX: u64 = 262_144;
+
+// The stored block size field, at least and at most.
+const LEAST_FIELD: u8 = 1;
+
+const MOST_FIELD: u8 = 5;
 
 // The stamp is held as its 64 bits, as stored: code only moves it.
 pub struct Geometry {
@@ -35,7 +54,7 @@ impl Geometry {
     pub fn extend_data(self, end: Block) -> Geometry
         ensures { λ r. ⌜ geometryView r ≡ extendData (geometryView self) (end .0) ⌝ }
     {
-        let blocks = past(end.0, self.reserved as u64);
+        let blocks = end.blocks_past(self.data_start());
         let mut g = self;
         if g.data < blocks {
             g.data = blocks;
@@ -48,7 +67,7 @@ impl Geometry {
         ensures { λ r. ⌜ geometryView r ≡ trimData (geometryView self) (end .0) ⌝ }
     {
         let mut g = self;
-        g.data = past(end.0, self.reserved as u64);
+        g.data = end.blocks_past(self.data_start());
         g
     }
 
@@ -82,29 +101,44 @@ impl Geometry {
         blocks::block_bytes(self.field)
     }
 
+    // The first block of the data area: those before it are reserved.
+    pub fn data_start(self) -> Block
+        ensures { λ r. ⌜ r .0 ≡ self .reserved ⌝ }
+    {
+        Block::at(self.reserved as u64)
+    }
+
+    // The first block past the data area.
+    pub fn data_end(self) -> Block
+        requires { ⌜ self .reserved + self .«data» < 2 ^ 64 ⌝ }
+        ensures { λ r. ⌜ r .0 ≡ dataEnd (geometryView self) ⌝ }
+    {
+        self.data_start().after(self.data)
+    }
+
     // 01's ceiling block: the first block that files may not reach, in an image of n bytes.
     pub fn ceiling(self, n: u64) -> Block
         requires { ⌜ (self .field ≤ 5) × (self .index ≤ n) ⌝ }
         ensures { λ r. ⌜ r .0 ≡ ceilingBlock n (geometryView self) ⌝ }
     {
-        Block((n - self.index) / self.block_length())
+        units::index_start(n, self.index).block(self.block_length())
     }
 
     // Whether a volume of this geometry may be written.
     pub fn is_writable(self) -> bool
         ensures { λ r. ⌜ r ≡ writable (geometryView self) ⌝ }
     {
-        self.version <= 0x10
+        self.version <= WRITABLE
     }
 
     // Whether the geometry is good for an image of n bytes, at any 64-bit values.
     pub fn is_good(self, n: u64) -> bool
         ensures { λ r. ⌜ r ≡ geometryGood n (geometryView self) ⌝ }
     {
-        if self.field < 1 {
+        if self.field < LEAST_FIELD {
             return false;
         }
-        if 5 < self.field {
+        if MOST_FIELD < self.field {
             return false;
         }
         let len = self.block_length();
@@ -112,10 +146,10 @@ impl Geometry {
         if !is_product(self.total, len, n) {
             return false;
         }
-        if reserved * len < 512 {
+        if reserved * len < LEAST_RESERVED {
             return false;
         }
-        if self.total < reserved + 2 {
+        if self.total < reserved + LEAST_REST {
             return false;
         }
         self.areas_fit(n)
@@ -132,16 +166,8 @@ impl Geometry {
         if n < self.index {
             return false;
         }
-        let ceiling = self.ceiling(n);
-        sum_at_most(self.reserved as u64, self.data, ceiling.0)
+        self.data_start().has_room(self.data, self.ceiling(n))
     }
-}
-
-// How far `end` lies past `from`, 0 where it does not.
-fn past(end: u64, from: u64) -> u64
-    ensures { λ r. ⌜ r ≡ end - from ⌝ }
-{
-    if end < from { 0 } else { end - from }
 }
 
 // Whether total blocks of `len` bytes are n bytes; the product may pass 64 bits.
@@ -155,25 +181,15 @@ fn is_product(total: u64, len: u64, n: u64) -> bool
     total == n / len
 }
 
-// Whether a + b is at most c; the sum may pass 64 bits.
-fn sum_at_most(a: u64, b: u64, c: u64) -> bool
-    ensures { λ r. ⌜ r ≡ leb (a + b) c ⌝ }
-{
-    if c < a {
-        return false;
-    }
-    b <= c - a
-}
-
 // Whether an index area may have so many bytes.
 pub fn index_good(i: u64) -> bool
     ensures { λ r. ⌜ r ≡ indexGood i ⌝ }
 {
-    if i < 128 {
+    if i < LEAST_INDEX {
         return false;
     }
-    if 262_144 < i {
+    if MOST_INDEX < i {
         return false;
     }
-    i % 64 == 0
+    i % units::SLOT_BYTES == 0
 }

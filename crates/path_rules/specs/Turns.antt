@@ -1,10 +1,10 @@
--- The rules on paths as the code walks them: from the last slash of a path back, and from entry to entry.
+-- The rules on paths as the code walks them: from the last slash of a path back, and of an entry by its type first.
 use Prim.Native.Nat.{ℕ, _-_, _≤_, _<_}
 use mathlib.Core.Path.{_≡_, refl, sym, ap, _∙_}
 use mathlib.Core.Bool.{Bool, true, false, _&&_, _||_, not}
 use mathlib.Core.List.{List, [], _∷_, _++_}
 use lib.ListN.{length, getD, take}
-use Rattle.rules.specs.Lists.{all, everyTwo, isSome}
+use Rattle.rules.specs.Lists.{all, isSome}
 use Rattle.rules.specs.Lists.Laws.{all-append, and-left, and-right}
 use Rattle.rules.specs.Names.{slash, leading}
 use Rattle.rules.specs.Names.Laws.{leading-slash, leading-other, leading-nil}
@@ -12,8 +12,8 @@ use Rattle.rules.specs.Index.{Entry, liveType}
 use Rattle.rules.specs.Paths.{isLive, lookup, directoryLive, directoriesLive, pathsDiffer}
 use Rattle.rules.specs.Paths.Laws.{differ-dead, differ-live}
 use Rattle.rules.specs.Writing.{nearestLive}
-use Rattle.index.specs.declared.Head.{Head}
-use Rattle.index.specs.View.{headView}
+use Rattle.slots.specs.declared.Head.{Head}
+use Rattle.slots.specs.View.{headView}
 
 -- an entry's own rule: where it is live, its directories are
 unfoldable pub placed : List Entry → Entry → Bool
@@ -60,33 +60,6 @@ module _ (es : List Entry) (s : List ℕ) (i : ℕ) (end : i ≡ 0) where
   pub slashless : true ≡ nearestLive es (leading (take i s))
   unfolding nearestLive
   slashless = rw (end, leading-nil)
-
--- ---- a turn of a walk over es: none is left, or x is next and xs behind it
-module _ (es : List Entry) where
-  pub all-end : (p : Entry → Bool) → es ≡ [] → true ≡ all p es
-  unfolding all
-  all-end p e = rw e
-
-  pub two-end : es ≡ [] → true ≡ everyTwo pathsDiffer es
-  unfolding everyTwo
-  two-end e = rw e
-
-  module _ (x : Entry) (xs : List Entry) (next : es ≡ x ∷ xs) where
-    pub all-stop : (p : Entry → Bool) → p x ≡ false → false ≡ all p es
-    unfolding all
-    all-stop p t = rw (next, t)
-
-    pub all-next : (p : Entry → Bool) → p x ≡ true → all p xs ≡ all p es
-    unfolding all
-    all-next p t = rw (next, t)
-
-    pub two-stop : all (pathsDiffer x) xs ≡ false → false ≡ everyTwo pathsDiffer es
-    unfolding everyTwo
-    two-stop t = rw (next, t)
-
-    pub two-next : all (pathsDiffer x) xs ≡ true → everyTwo pathsDiffer xs ≡ everyTwo pathsDiffer es
-    unfolding everyTwo
-    two-next t = rw (next, t)
 
 -- ---- an entry by its type first
 module _ (es : List Entry) (s : List ℕ) (h : Head) where

@@ -1,38 +1,18 @@
--- Tests over entries, one at a time; and where a head's name lies.
-use Prim.Native.Nat.{ℕ, _+_, _-_, _*_, _≤_}
-use mathlib.Core.Path.{_≡_, sym, ap, _∙_}
+-- Tests over entries, one at a time.
+use Prim.Native.Nat.{ℕ}
+use mathlib.Core.Path.{_≡_, sym}
 use mathlib.Core.Bool.{Bool, true, false}
 use mathlib.Core.List.{List, [], _∷_}
 use mathlib.Core.Option.{none, some}
-use native.Mathlib.Omega.{arith}
-use lib.ListN.{length, take, drop, length-take, length-drop}
-use lib.Seq.{take-take}
 use borrow.Author.Tests.{eq-eqb, ne-eqb}
-use Rattle.rules.specs.Lists.{first, eqList, part}
-use Rattle.rules.specs.Lists.Laws.{first-nil, first-here, first-later, pick-true}
-use Rattle.rules.specs.Fields.{byteAt, upToZero}
-use Rattle.rules.specs.Fields.Laws.{upToZero-take}
-use Rattle.rules.specs.Index.{Entry, runType, liveType, typeDirectory, nameField, nameAt, runSlots}
+use Rattle.rules.specs.Lists.{first, eqList}
+use Rattle.rules.specs.Lists.Laws.{first-nil, first-here, first-later}
+use Rattle.rules.specs.Index.{Entry, liveType, typeDirectory}
 use Rattle.rules.specs.Names.{isBelow}
 use Rattle.rules.specs.Paths.{isLive, liveAt, isDirectoryAt}
-use Rattle.rules.specs.Index.Items.{name-field, byte-drop, type-drop}
-use Rattle.index.specs.declared.Cursor.{Cursor}
-use Rattle.index.specs.declared.Head.{Head}
-use Rattle.index.specs.declared.Next.{Next}
-use Rattle.index.specs.declared.Next.the-variants.{End, Found}
-use Rattle.index.specs.View.{headView, pathAt}
-use Rattle.index.specs.Steps.{HeadIn, Step, Told, entriesFrom}
+use Rattle.slots.specs.declared.Head.{Head}
+use Rattle.slots.specs.View.{headView}
 use Rattle.paths.specs.View.{liveBelow}
-
--- ---- what a step said, by its answer
-module _ (s : List ℕ) (c : Cursor) (r : Next) (told : Told s c r) where
-  pub told-end : r ≡ End → entriesFrom s c ≡ []
-  unfolding Told
-  told-end e = rw e at told
-
-  pub told-found : (h : Head) (d : Cursor) → r ≡ Found h d → Step s c h d
-  unfolding Told
-  told-found h d e = rw e at told
 
 -- ---- a turn of a walk over es: none is left, or x is next and xs behind it
 module _ (p : Entry → Bool) (es : List Entry) where

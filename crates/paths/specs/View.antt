@@ -9,9 +9,8 @@ use Rattle.rules.specs.Lists.{isSome}
 use Rattle.rules.specs.Names.{isBelow}
 use Rattle.rules.specs.Index.{Entry}
 use Rattle.rules.specs.Paths.{isLive, liveAt, isDirectoryAt}
-use Rattle.index.specs.declared.Head.{Head}
-use Rattle.index.specs.View.{headView}
-use Rattle.index.specs.Steps.{HeadIn}
+use Rattle.slots.specs.declared.Head.{Head}
+use Rattle.slots.specs.View.{headView, HeadIn}
 use Rattle.paths.specs.declared.Search.{Search}
 use Rattle.paths.specs.declared.Search.the-variants.{Nothing, Entry as found}
 use Rattle.paths.specs.declared.Sought.{Sought}
@@ -25,7 +24,7 @@ unfoldable pub passes : Sought → List ℕ → Entry → Bool
 passes byPath p e = liveAt p e
 passes byDirectory p e = isDirectoryAt p e
 passes byBelow p e = liveBelow p e
-passes (bySlot k) p e = isLive e && leb k (e .slot)
+passes (bySlot k) p e = isLive e && leb (k .0) (e .slot)
 
 -- ---- what was found
 unfoldable pub searchView : List ℕ → Search → Option Entry

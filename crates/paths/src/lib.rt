@@ -4,17 +4,16 @@ use index::Cursor;
 use index::Next;
 use index::next_entry;
 use slots::Head;
+use units::Slot;
 ghost use mathlib.Core.Path.{_≡_};
-ghost use mathlib.Core.Bool.{true, _&&_};
-ghost use Prim.Native.Nat.{_+_, _≤_};
-ghost use lib.ListN.{length};
+ghost use mathlib.Core.Bool.{_&&_};
 ghost use lib.Dec.{leb};
-ghost use Rattle.rules.specs.Lists.{eqList, first, part};
+ghost use Rattle.rules.specs.Lists.{eqList, first};
 ghost use Rattle.rules.specs.Names.{isBelow};
-ghost use Rattle.rules.specs.Index.{liveType, runType};
+ghost use Rattle.rules.specs.Index.{liveType};
 ghost use Rattle.rules.specs.Paths.{liveAt, isDirectoryAt, lookup, nextLive, directoryLive, anyBelow};
-ghost use Rattle.index.specs.View.{headView};
-ghost use Rattle.index.specs.Steps.{Walks, HeadIn, entriesFrom};
+ghost use Rattle.slots.specs.View.{headView, HeadIn};
+ghost use Rattle.index.specs.Steps.{Walks, entriesFrom};
 ghost use Rattle.paths.specs.View.{Searched, isFound, liveBelow, passes};
 
 pub enum Search {
@@ -68,7 +67,7 @@ pub fn directory_is(img: &[u8], h: Head, path: &[u8]) -> bool
     requires { ⌜ HeadIn (now img) h ⌝ }
     ensures { λ r. ⌜ r ≡ isDirectoryAt (now (path .entry)) (headView (now (img .entry)) h) ⌝ }
 {
-    if h.kind != 0x11 {
+    if h.kind != slots::DIRECTORY {
         return false;
     }
     same_bytes(slots::path_of(img, h), path)
@@ -86,13 +85,13 @@ fn lies_below(img: &[u8], h: Head, path: &[u8]) -> bool
 }
 
 // Whether the entry is live and its first slot is not below this one.
-fn starts_from(h: Head, slot: u64) -> bool
-    ensures { λ r. ⌜ r ≡ (liveType (h .kind) && leb slot (h .slot .0)) ⌝ }
+fn starts_from(h: Head, slot: Slot) -> bool
+    ensures { λ r. ⌜ r ≡ (liveType (h .kind) && leb (slot .0) (h .slot .0)) ⌝ }
 {
     if !slots::is_live(h.kind) {
         return false;
     }
-    slot <= h.slot.0
+    slot.is_at_or_before(h.slot)
 }
 
 // ---- searches
@@ -102,7 +101,7 @@ enum Sought {
     Path,
     Directory,
     Below,
-    From(u64),
+    From(Slot),
 }
 
 fn passes(img: &[u8], h: Head, what: Sought, path: &[u8]) -> bool
@@ -154,9 +153,9 @@ pub fn lookup(img: &[u8], from: Cursor, path: &[u8]) -> Search
 }
 
 // The live entry with the lowest first slot not below this one.
-pub fn next_live(img: &[u8], from: Cursor, slot: u64) -> Search
+pub fn next_live(img: &[u8], from: Cursor, slot: Slot) -> Search
     requires { ⌜ Walks (now img) from ⌝ }
-    ensures { λ r. ⌜ Searched (now (img .entry)) (nextLive slot (entriesFrom (now (img .entry)) from)) r ⌝ }
+    ensures { λ r. ⌜ Searched (now (img .entry)) (nextLive (slot .0) (entriesFrom (now (img .entry)) from)) r ⌝ }
 {
     seek(img, from, Sought::From(slot), b"")
 }

@@ -2,8 +2,8 @@
 
 use geometry::Geometry;
 use index::Cursor;
-use index::Head;
 use index::Next;
+use slots::Head;
 ghost use mathlib.Core.Path.{_≡_};
 ghost use mathlib.Core.Bool.{_&&_};
 ghost use mathlib.Core.List.{List};
@@ -12,7 +12,7 @@ ghost use Prim.Native.Nat.{ℕ};
 ghost use Rattle.rules.specs.Lists.{all, everyTwo};
 ghost use Rattle.rules.specs.Regions.{withinData, fileRegionGood, regionGood, apart, regionsSound};
 ghost use Rattle.geometry.specs.View.{geometryView};
-ghost use Rattle.index.specs.View.{headView};
+ghost use Rattle.slots.specs.View.{headView};
 ghost use Rattle.index.specs.Steps.{Walks, entriesFrom};
 ghost use Rattle.regions.specs.Bounds.{Bounded};
 
@@ -21,24 +21,23 @@ fn within_data(g: Geometry, h: Head) -> bool
     requires { ⌜ Bounded g ⌝ }
     ensures { λ r. ⌜ ((s : List ℕ) → r ≡ withinData (geometryView g) (headView s h)) ⌝ }
 {
-    let reserved = g.reserved as u64;
-    if h.start.0 < reserved {
+    if !g.data_start().is_at_or_before(h.start) {
         return false;
     }
-    if h.end.0 <= h.start.0 {
+    if !h.start.is_before(h.end) {
         return false;
     }
-    h.end.0 <= reserved + g.data
+    h.end.is_at_or_before(g.data_end())
 }
 
 // An empty file has no region.
 fn is_empty(h: Head) -> bool
     ensures { λ r. ⌜ r ≡ (eqb (h .start .0) 0 && eqb (h .end .0) 0 && eqb (h .length) 0) ⌝ }
 {
-    if h.start.0 != 0 {
+    if h.start.number() != 0 {
         return false;
     }
-    if h.end.0 != 0 {
+    if h.end.number() != 0 {
         return false;
     }
     h.length == 0
@@ -67,7 +66,7 @@ pub fn region_good(g: Geometry, h: Head) -> bool
     if slots::is_file(h.kind) {
         return file_region_good(g, h);
     }
-    if h.kind == 0x18 {
+    if h.kind == slots::UNUSABLE {
         return within_data(g, h);
     }
     true
@@ -77,10 +76,10 @@ pub fn region_good(g: Geometry, h: Head) -> bool
 pub fn regions_apart(a: Head, b: Head) -> bool
     ensures { λ r. ⌜ ((s : List ℕ) → r ≡ apart (headView s a) (headView s b)) ⌝ }
 {
-    if a.end.0 <= b.start.0 {
+    if a.end.is_at_or_before(b.start) {
         return true;
     }
-    b.end.0 <= a.start.0
+    b.end.is_at_or_before(a.start)
 }
 
 // Whether every region from the cursor on is good.

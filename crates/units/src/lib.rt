@@ -1,8 +1,9 @@
 // Block numbers, slot numbers and byte offsets: three units, converted only by the functions here.
 
 ghost use mathlib.Core.Path.{_≡_};
+ghost use mathlib.Core.Bool.{true};
 ghost use Prim.Native.Nat.{_+_, _-_, _*_, _/_, _^_, _≤_, _<_, max};
-ghost use lib.Dec.{ltb};
+ghost use lib.Dec.{ltb, leb};
 
 // The longest image, in bytes: no offset lies past it.
 pub const LONGEST: u64 = 16_777_216;
@@ -40,6 +41,12 @@ impl Block {
         self.0 < other.0
     }
 
+    pub fn is_at_or_before(self, other: Block) -> bool
+        ensures { λ r. ⌜ r ≡ leb (self .0) (other .0) ⌝ }
+    {
+        self.0 <= other.0
+    }
+
     // The later of the two.
     pub fn later(self, other: Block) -> Block
         ensures { λ r. ⌜ r .0 ≡ max (self .0) (other .0) ⌝ }
@@ -64,10 +71,21 @@ impl Block {
 
     // The block past a region of so many blocks that starts here.
     pub fn after(self, blocks: u64) -> Block
-        requires { ⌜ self .0 + blocks ≤ 16_777_216 ⌝ }
+        requires { ⌜ self .0 + blocks < 2 ^ 64 ⌝ }
         ensures { λ r. ⌜ r .0 ≡ self .0 + blocks ⌝ }
     {
         Block(self.0 + blocks)
+    }
+
+    // Whether there is room for so many blocks from here up to `end`. The sum may pass 64 bits; where there is room, it does not.
+    pub fn has_room(self, blocks: u64, end: Block) -> bool
+        ensures { λ r. ⌜ r ≡ leb (self .0 + blocks) (end .0) ⌝ }
+        ensures held { λ r. ⌜ (r ≡ true → self .0 + blocks < 2 ^ 64) ⌝ }
+    {
+        if end.0 < self.0 {
+            return false;
+        }
+        blocks <= end.0 - self.0
     }
 
     // How many blocks lie from here up to `end`.
@@ -98,6 +116,12 @@ impl Slot {
         ensures { λ r. ⌜ r ≡ ltb (self .0) (other .0) ⌝ }
     {
         self.0 < other.0
+    }
+
+    pub fn is_at_or_before(self, other: Slot) -> bool
+        ensures { λ r. ⌜ r ≡ leb (self .0) (other .0) ⌝ }
+    {
+        self.0 <= other.0
     }
 
     // How many slots lie from here up to `end`.

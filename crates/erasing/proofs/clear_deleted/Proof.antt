@@ -2,7 +2,7 @@ use mathlib.Core.Path.{_≡_, refl}
 use native.Mathlib.Omega.{arith}
 use lib.ListN.{length}
 use Rattle.index.specs.Steps.{Walks, Step}
-use Rattle.paths.specs.Entries.{told-end, told-found}
+use Rattle.index.specs.Turns.{told-end, told-found}
 use Rattle.erasing.specs.Reclaim.{Clears, clears-none, clears-all, clears-more, step-walks}
 use borrow.Author.Needs.{needs}
 use Rattle.erasing.proofs.clear_deleted.Statement.{statement}

@@ -1,16 +1,12 @@
 use mathlib.Core.Path.{sym, _∙_}
-use native.Mathlib.Omega.{arith}
 use borrow.Author.Tests.{not-true, not-false}
 use Rattle.rules.specs.Lists.{pick}
 use Rattle.rules.specs.Regions.{blocksOf}
-use Rattle.index.specs.View.{headView}
+use Rattle.slots.specs.View.{headView}
 use Rattle.free_runs.specs.Sums.{fileBlocks}
 use borrow.Author.Needs.{needs}
 use Rattle.free_runs.proofs.file_blocks.Statement.{statement}
 use Rattle.free_runs.proofs.file_blocks.Tie as tie
-
-is-file-requires : tie.Need-is-file-requires
-is-file-requires c κs = search needs
 
 returns : tie.Need-returns
 unfolding fileBlocks headView pick
@@ -18,11 +14,7 @@ returns c s = rw (sym (c .before .is-file .ensures) ∙ not-true _ (c .if1 .take
 
 returns-2 : tie.Need-returns-2
 unfolding fileBlocks headView blocksOf pick
-returns-2 c s = rw (sym (c .before .before .before .is-file .ensures) ∙ not-false _ (c .before .before .if1 .left)) (omega arith)
-
-returns-3 : tie.Need-returns-3
-unfolding fileBlocks headView blocksOf pick
-returns-3 c s = rw (sym (c .before .before .before .before .is-file .ensures) ∙ not-false _ (c .before .before .before .if1 .left))
+returns-2 c s = rw (sym (c .before .before .is-file .ensures) ∙ not-false _ (c .before .if1 .left)) (c .blocks-past .ensures)
 
 pub file-blocks-spec : {M : Type 1} → statement M
-file-blocks-spec = tie.close (tie.spec is-file-requires returns returns-2 returns-3)
+file-blocks-spec = tie.close (tie.spec (λ c κs. search needs) returns (λ c κs. search needs) returns-2)

@@ -1,10 +1,11 @@
+-- The blocks so far with those of the entries from the cursor on are those of all.
 use Prim.Native.Nat.{_+_}
 use mathlib.Core.Path.{_≡_}
 use native.Mathlib.Omega.{arith}
 use denote.Ref.{now}
 use Rattle.rules.specs.Regions.{heldBlocks}
 use Rattle.index.specs.Steps.{Walks, Step, entriesFrom}
-use Rattle.regions.specs.Turns.{ended, stepped}
+use Rattle.index.specs.Turns.{told-end, told-found}
 use Rattle.free_runs.specs.Sums.{held-end, held-next}
 use borrow.Author.Needs.{needs}
 use Rattle.free_runs.proofs.held_blocks.Statement.{statement}
@@ -16,40 +17,29 @@ Inv-loop img c₀ held₀ c held = Walks img c × (held + heldBlocks (entriesFro
 abbrev μ-loop : tie.MeasureT-loop
 μ-loop img c₀ held₀ c held = c .left
 
-loop-holds : tie.Need-loop-holds Inv-loop μ-loop
-loop-holds c = (c .before .pre .0, omega arith)
-
-next-entry-requires : tie.Need-next-entry-requires Inv-loop μ-loop
-next-entry-requires c κs = c .loop .inv .0
-
-enum-told : tie.Need-enum-told Inv-loop μ-loop
-enum-told c = search needs
-
 returns : tie.Need-returns Inv-loop μ-loop
-returns c = omega (arith, held-end _ (ended _ _ _ (c .before .before .next-entry .ensures) (c .enum-told .given .1)), c .before .before .before .loop .inv .1)
+returns c =
+    let n = c .before .before in
+    omega (arith, held-end _ (told-end _ _ _ (n .next-entry .ensures) (c .enum-told .given .1)), n .before .loop .inv .1)
 
-step : (c : tie.After-e Inv-loop μ-loop) → Step (now (c .before .before .before .before .before .args .img)) (c .before .before .before .loop .c) (c .e .given .0 .0) (c .e .given .0 .1 .0)
-step c = stepped _ _ _ (c .before .before .next-entry .ensures) _ _ (c .e .given .1)
+step : (c : tie.After-e Inv-loop μ-loop) → let l = c .before .before .before in
+    Step (now (l .before .before .args .img)) (l .loop .c) (c .e .given .0 .0) (c .e .given .0 .1 .0)
+step c = told-found _ _ _ (c .before .before .next-entry .ensures) _ _ (c .e .given .1)
 
--- what is left, one entry further
-rest : (c : tie.After-file-blocks Inv-loop μ-loop) → let s = now (c .before .before .before .before .before .before .before .args .img) in
-    heldBlocks (entriesFrom s (c .before .before .before .before .before .loop .c)) ≡ c .file-blocks .result + heldBlocks (entriesFrom s (c .before .before .e .given .0 .1 .0))
-rest c = omega (arith, held-next _ _ _ (step (c .before .before) .entries), c .file-blocks .ensures (now (c .before .before .before .before .before .before .before .args .img)))
-
-enum-known-e : tie.Need-enum-known-e Inv-loop μ-loop
-enum-known-e c = search needs
-
-file-blocks-requires : tie.Need-file-blocks-requires Inv-loop μ-loop
-file-blocks-requires c κs = search needs
+-- what is held once the entry is counted, and what is left, one entry further
+turn : (c : tie.After-file-blocks Inv-loop μ-loop) → let e = c .before .before in
+    let l = e .before .before .before in
+    let s = now (l .before .before .args .img) in
+    l .loop .held + c .file-blocks .result + heldBlocks (entriesFrom s (e .e .given .0 .1 .0)) ≡ heldBlocks (entriesFrom s (l .before .before .args .from))
+turn c =
+    let e = c .before .before in
+    let l = e .before .before .before in
+    omega (arith, held-next _ _ _ (step e .entries), c .file-blocks .ensures (now (l .before .before .args .img)), l .loop .inv .1)
 
 add-held : tie.Need-add-held Inv-loop μ-loop
-add-held c = record { fits = omega (arith, rest c, c .before .before .before .before .before .loop .inv .1, c .before .before .before .before .before .before .before .pre .1) }
-
-loop-less : tie.Need-loop-less Inv-loop μ-loop
-loop-less c = step (c .before .before) .less
-
-loop-again : tie.Need-loop-again Inv-loop μ-loop
-loop-again c = (step (c .before .before) .walks, omega (arith, rest c, c .before .before .before .before .before .loop .inv .1))
+add-held c =
+    let l = c .before .before .before .before .before in
+    record { fits = omega (arith, turn c, l .before .before .pre .1) }
 
 pub held-blocks-spec : {M : Type 1} → statement M
 held-blocks-spec =
@@ -57,12 +47,12 @@ held-blocks-spec =
     (tie.spec
     Inv-loop
     μ-loop
-    loop-holds
-    next-entry-requires
-    enum-told
+    (λ c. (c .before .pre .0, omega arith))
+    (λ c κs. c .loop .inv .0)
+    (λ c. search needs)
     returns
-    enum-known-e
-    file-blocks-requires
+    (λ c. search needs)
+    (λ c κs. search needs)
     add-held
-    loop-less
-    loop-again)
+    (λ c. step (c .before .before) .less)
+    (λ c. (step (c .before .before) .walks, turn c)))

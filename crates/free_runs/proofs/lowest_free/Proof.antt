@@ -1,44 +1,54 @@
 -- Whatever the ceiling, the answer from b on is the answer from the first start.
-use Prim.Native.Nat.{ℕ, _+_, _-_}
+use Prim.Native.Nat.{ℕ, _+_, _-_, _≤_, _<_}
 use mathlib.Core.Path.{_≡_, refl, sym, _∙_}
 use native.Mathlib.Omega.{arith}
+use borrow.Author.Tests.{leb-true, leb-false, ltb-true, ltb-false, not-true, not-false}
 use denote.Ref.{now}
 use Rattle.rules.specs.Regions.{lowestFree}
 use Rattle.index.specs.Steps.{entriesFrom}
-use Rattle.free_runs.specs.Runs.{blocked-some, lowest-none, lowest-found, lowest-jump}
+use Rattle.free_runs.specs.Runs.{lowest-none, lowest-found, lowest-jump}
+use borrow.Author.Needs.{needs}
 use Rattle.free_runs.proofs.lowest_free.Statement.{statement}
 use Rattle.free_runs.proofs.lowest_free.Tie as tie
 
 abbrev Inv-loop : tie.InvT-loop
-Inv-loop img from k top b₀ b = (c : ℕ) → lowestFree (entriesFrom img from) k b c ≡ lowestFree (entriesFrom img from) k b₀ c
+Inv-loop img from k ceiling b₀ b = (c : ℕ) → lowestFree (entriesFrom img from) k (b .0) c ≡ lowestFree (entriesFrom img from) k (b₀ .0) c
 
 abbrev μ-loop : tie.MeasureT-loop
-μ-loop img from k top b₀ b = top + 1 - b
-
-returns : tie.Need-returns Inv-loop μ-loop
-returns c = let a = c .before .before .before .args in
-    sym (lowest-none (entriesFrom (now (a .img)) (a .from)) (a .k) (a .ceiling .0) (a .low .0) (omega arith))
-
-loop-holds : tie.Need-loop-holds Inv-loop μ-loop
-loop-holds c = λ x. refl
+μ-loop img from k ceiling b₀ b = ceiling .0 + 1 - b .0
 
 blocked-to-requires : tie.Need-blocked-to-requires Inv-loop μ-loop
-blocked-to-requires c κs = (c .before .before .before .before .before .before .pre, omega arith)
+blocked-to-requires c κs =
+    let r = c .before in
+    (r .before .before .before .pre, r .has-room .ensures .1 (c .if1 .taken))
 
-returns-2 : tie.Need-returns-2 Inv-loop μ-loop
-returns-2 c = let l = c .before .before .before .loop in
-    sym (lowest-found _ _ _ (l .b) (omega arith) (sym (c .before .blocked-to .ensures) ∙ c .if2 .taken)) ∙ l .inv _
+room : (c : tie.Then1 Inv-loop μ-loop) → let l = c .before .before in l .loop .b .0 + l .before .before .args .k ≤ l .before .before .args .ceiling .0
+room c = leb-true _ _ (sym (c .before .has-room .ensures .0) ∙ c .if1 .taken)
+
+stays : (c : tie.Then2 Inv-loop μ-loop) → c .before .before .blocked-to .result .0 ≤ c .before .before .before .before .before .loop .b .0
+stays c = ltb-false _ _ (sym (c .before .is-before .ensures) ∙ not-true _ (c .if2 .taken))
+
+returns : tie.Need-returns Inv-loop μ-loop
+returns c =
+    let b = c .before .before in
+    let l = b .before .before .before in
+    sym (lowest-found _ _ _ _ (room (b .before)) (rw (b .blocked-to .ensures) at (stays c))) ∙ l .loop .inv _
+
+further : (c : tie.Else2 Inv-loop μ-loop) → c .before .before .before .before .before .loop .b .0 < c .before .before .blocked-to .result .0
+further c = ltb-true _ _ (sym (c .before .is-before .ensures) ∙ not-false _ (c .if2 .left))
 
 loop-less : tie.Need-loop-less Inv-loop μ-loop
-loop-less c = let a = c .before .before .before .before .before .before .before .before .args in
-    omega (arith, c .before .before .loop-test .taken, c .before .blocked-to .ensures, blocked-some _ (a .k) (entriesFrom (now (a .img)) (a .from)) (λ z. c .if2 .left (c .before .blocked-to .ensures ∙ z)) .0)
+loop-less c = omega (arith, further c, room (c .before .before .before))
 
 loop-again : tie.Need-loop-again Inv-loop μ-loop
-loop-again c = λ x. rw (c .before .blocked-to .ensures) (lowest-jump _ _ x _ (λ z. c .if2 .left (c .before .blocked-to .ensures ∙ z)) ∙ c .before .before .before .loop .inv x)
+loop-again c =
+    let b = c .before .before in
+    λ x. rw (b .blocked-to .ensures) (lowest-jump _ _ x _ (rw (b .blocked-to .ensures) at (further c)) ∙ b .before .before .before .loop .inv x)
 
-returns-3 : tie.Need-returns-3 Inv-loop μ-loop
-returns-3 c = let l = c .before .loop in
-    sym (lowest-none _ _ _ (l .b) (omega arith)) ∙ l .inv _
+returns-2 : tie.Need-returns-2 Inv-loop μ-loop
+returns-2 c =
+    let l = c .before .before in
+    sym (lowest-none _ _ _ _ (leb-false _ _ (sym (c .before .has-room .ensures .0) ∙ c .if1 .left))) ∙ l .loop .inv _
 
 pub lowest-free-spec : {M : Type 1} → statement M
 lowest-free-spec =
@@ -46,10 +56,11 @@ lowest-free-spec =
     (tie.spec
     Inv-loop
     μ-loop
-    returns
-    loop-holds
+    (λ c x. refl)
+    (λ c κs. search needs)
     blocked-to-requires
-    returns-2
+    (λ c κs. search needs)
+    returns
     loop-less
     loop-again
-    returns-3)
+    returns-2)

@@ -16,16 +16,22 @@ use Rattle.judging.proofs.judge_index.Statement.{statement}
 use Rattle.judging.proofs.judge_index.Tie as tie
 
 -- the passes that were passed
-index-is : (c : tie.Else1) → indexSound (now (c .before .before .before .args .img)) (geometryView (c .before .before .before .args .g)) (itemsOf (now (c .before .before .before .args .img)) (geometryView (c .before .before .before .args .g))) ≡ true
+index-is : (c : tie.Else1) → let a = c .before .before .before .args in let g = geometryView (a .g) in indexSound (now (a .img)) g (itemsOf (now (a .img)) g) ≡ true
 index-is c = sym (c .before .index-sound .ensures) ∙ not-false _ (c .if1 .left)
 
 walks : (c : tie.After-first-slot) → Walks (now (c .before .before .before .before .args .img)) (c .first-slot .result)
-walks c = sound-walks (now (c .before .before .before .before .args .img)) (geometryView (c .before .before .before .before .args .g)) (c .first-slot .result) (c .first-slot .ensures .0) (c .first-slot .ensures .1) (index-is (c .before))
+walks c =
+    let a = c .before .before .before .before .args in
+    sound-walks (now (a .img)) (geometryView (a .g)) (c .first-slot .result) (c .first-slot .ensures .0) (c .first-slot .ensures .1) (index-is (c .before))
 
-regions-are : (c : tie.After-regions-sound) → c .regions-sound .result ≡ regionsSound (geometryView (c .before .before .before .before .before .args .g)) (entriesOf (itemsOf (now (c .before .before .before .before .before .args .img)) (geometryView (c .before .before .before .before .before .args .g))))
-regions-are c = c .regions-sound .ensures ∙ ap (λ is. regionsSound (geometryView (c .before .before .before .before .before .args .g)) (entriesOf is)) (c .before .first-slot .ensures .0)
+regions-are : (c : tie.After-regions-sound) → let a = c .before .before .before .before .before .args in let g = geometryView (a .g) in
+    c .regions-sound .result ≡ regionsSound g (entriesOf (itemsOf (now (a .img)) g))
+regions-are c =
+    let g = geometryView (c .before .before .before .before .before .args .g) in
+    c .regions-sound .ensures ∙ ap (λ is. regionsSound g (entriesOf is)) (c .before .first-slot .ensures .0)
 
-paths-are : (c : tie.After-paths-sound) → c .paths-sound .result ≡ pathsSound (entriesOf (itemsOf (now (c .before .before .before .before .before .before .before .args .img)) (geometryView (c .before .before .before .before .before .before .before .args .g))))
+paths-are : (c : tie.After-paths-sound) → let a = c .before .before .before .before .before .before .before .args in
+    c .paths-sound .result ≡ pathsSound (entriesOf (itemsOf (now (a .img)) (geometryView (a .g))))
 paths-are c = c .paths-sound .ensures ∙ ap (λ is. pathsSound (entriesOf is)) (c .before .before .before .first-slot .ensures .0)
 
 index-sound-requires : tie.Need-index-sound-requires
@@ -39,7 +45,8 @@ first-slot-requires : tie.Need-first-slot-requires
 first-slot-requires c κs = search needs
 
 regions-sound-requires : tie.Need-regions-sound-requires
-regions-sound-requires c κs = (good-bounded _ _ (c .before .before .before .before .pre .good) (c .before .before .before .before .pre .short), walks c)
+regions-sound-requires c κs = let p = c .before .before .before .before .pre in
+    (good-bounded _ _ (p .good) (p .short), walks c)
 
 returns-2 : tie.Need-returns-2
 unfolding judgedView
@@ -50,11 +57,15 @@ paths-sound-requires c κs = walks (c .before .before)
 
 returns-3 : tie.Need-returns-3
 unfolding judgedView
-returns-3 c = sym (index-bad-paths _ _ _ (index-is (c .before .before .before .before .before)) (sym (regions-are (c .before .before .before)) ∙ not-false _ (c .before .before .if2 .left)) (sym (paths-are (c .before)) ∙ not-true _ (c .if3 .taken)))
+returns-3 c =
+    let r = c .before .before in
+    sym (index-bad-paths _ _ _ (index-is (r .before .before .before)) (sym (regions-are (r .before)) ∙ not-false _ (r .if2 .left)) (sym (paths-are (c .before)) ∙ not-true _ (c .if3 .taken)))
 
 returns-4 : tie.Need-returns-4
 unfolding judgedView
-returns-4 c = sym (index-good _ _ _ (index-is (c .before .before .before .before .before)) (sym (regions-are (c .before .before .before)) ∙ not-false _ (c .before .before .if2 .left)) (sym (paths-are (c .before)) ∙ not-false _ (c .if3 .left)))
+returns-4 c =
+    let r = c .before .before in
+    sym (index-good _ _ _ (index-is (r .before .before .before)) (sym (regions-are (r .before)) ∙ not-false _ (r .if2 .left)) (sym (paths-are (c .before)) ∙ not-false _ (c .if3 .left)))
 
 pub judge-index-spec : {M : Type 1} → statement M
 judge-index-spec =

@@ -6,7 +6,7 @@ use lib.ListN.{length}
 use Rattle.rules.specs.Lists.{only}
 use Rattle.rules.specs.Paths.{isLive}
 use Rattle.index.specs.Steps.{Walks, Step, entriesFrom}
-use Rattle.regions.specs.Turns.{ended, stepped}
+use Rattle.index.specs.Turns.{told-end, told-found}
 use Rattle.listing.specs.Lines.{live-end, live-next}
 use borrow.Author.Needs.{needs}
 use Rattle.listing.proofs.count_live.Statement.{statement}
@@ -30,10 +30,10 @@ enum-told : tie.Need-enum-told Inv-loop μ-loop
 enum-told c = search needs
 
 returns : tie.Need-returns Inv-loop μ-loop
-returns c = omega (arith, live-end _ (ended _ _ _ (c .before .before .next-entry .ensures) (c .enum-told .given .1)), c .before .before .before .loop .inv .1)
+returns c = omega (arith, live-end _ (told-end _ _ _ (c .before .before .next-entry .ensures) (c .enum-told .given .1)), c .before .before .before .loop .inv .1)
 
 step : (c : tie.After-h Inv-loop μ-loop) → Step (now (c .before .before .before .before .before .args .img)) (c .before .before .before .loop .c) (c .h .given .0 .0) (c .h .given .0 .1 .0)
-step c = stepped _ _ _ (c .before .before .next-entry .ensures) _ _ (c .h .given .1)
+step c = told-found _ _ _ (c .before .before .next-entry .ensures) _ _ (c .h .given .1)
 
 -- what is left, one entry further
 rest : (c : tie.After-live-one Inv-loop μ-loop) → let s = now (c .before .before .before .before .before .before .before .args .img) in

@@ -1,7 +1,6 @@
 -- The entries from the cursor on decide as all of them do.
-use Rattle.path_rules.specs.Turns.{two-end, two-stop, two-next}
-use Rattle.paths.specs.Entries.{told-end, told-found}
 use Rattle.index.specs.Steps.{Walks, Step, entriesFrom}
+use Rattle.index.specs.Turns.{told-end, told-found, two-end, two-stop, two-next}
 use Rattle.rules.specs.Paths.{pathsDiffer}
 use Rattle.rules.specs.Lists.{everyTwo}
 use borrow.Author.Tests.{not-true, not-false}
@@ -17,38 +16,24 @@ Inv-loop img at₀ at = Walks img at × (everyTwo pathsDiffer (entriesFrom img a
 abbrev μ-loop : tie.MeasureT-loop
 μ-loop img at₀ at = at .left
 
-loop-holds : tie.Need-loop-holds Inv-loop μ-loop
-loop-holds c = (c .before .pre, refl)
-
-next-entry-requires : tie.Need-next-entry-requires Inv-loop μ-loop
-next-entry-requires c κs = c .loop .inv .0
-
-enum-told : tie.Need-enum-told Inv-loop μ-loop
-enum-told c = search needs
-
 returns : tie.Need-returns Inv-loop μ-loop
-returns c = let l = c .before .before .before .loop in
-    two-end _ (told-end _ (l .at) _ (c .before .before .next-entry .ensures) (c .enum-told .given .1)) ∙ l .inv .1
+returns c =
+    let n = c .before .before in
+    two-end _ _ (told-end _ _ _ (n .next-entry .ensures) (c .enum-told .given .1)) ∙ n .before .loop .inv .1
 
-enum-known-h : tie.Need-enum-known-h Inv-loop μ-loop
-enum-known-h c = search needs
-
-step : (c : tie.After-known-told Inv-loop μ-loop) → Step (now (c .before .before .before .before .before .before .args .img)) (c .before .before .before .before .loop .at) (c .before .h .given .0 .0) (c .before .h .given .0 .1 .0)
-step c = told-found _ _ _ (c .before .before .before .next-entry .ensures) _ _ (c .before .h .given .1)
-
-differs-requires : tie.Need-differs-requires Inv-loop μ-loop
-differs-requires c κs = (step c .head, search (needs, step c .walks))
+step : (c : tie.After-h Inv-loop μ-loop) → let l = c .before .before .before in
+    Step (now (l .before .before .args .img)) (l .loop .at) (c .h .given .0 .0) (c .h .given .0 .1 .0)
+step c = told-found _ _ _ (c .before .before .next-entry .ensures) _ _ (c .h .given .1)
 
 returns-2 : tie.Need-returns-2 Inv-loop μ-loop
-returns-2 c = let p = c .before .before in
-    two-stop _ _ _ (step p .entries) (sym (c .before .differs .ensures) ∙ not-true _ (c .if1 .taken)) ∙ p .before .before .before .before .loop .inv .1
-
-loop-less : tie.Need-loop-less Inv-loop μ-loop
-loop-less c = step (c .before .before) .less
+returns-2 c =
+    let h = c .before .before .before in
+    two-stop _ _ _ (step h .entries) _ (sym (c .before .differs .ensures) ∙ not-true _ (c .if1 .taken)) ∙ h .before .before .before .loop .inv .1
 
 loop-again : tie.Need-loop-again Inv-loop μ-loop
-loop-again c = let p = c .before .before in
-    (step p .walks, two-next _ _ _ (step p .entries) (sym (c .before .differs .ensures) ∙ not-false _ (c .if1 .left)) ∙ p .before .before .before .before .loop .inv .1)
+loop-again c =
+    let h = c .before .before .before in
+    (step h .walks, two-next _ _ _ (step h .entries) _ (sym (c .before .differs .ensures) ∙ not-false _ (c .if1 .left)) ∙ h .before .before .before .loop .inv .1)
 
 pub all-differ-spec : {M : Type 1} → statement M
 all-differ-spec =
@@ -56,12 +41,12 @@ all-differ-spec =
     (tie.spec
     Inv-loop
     μ-loop
-    loop-holds
-    next-entry-requires
-    enum-told
+    (λ c. (c .before .pre, refl))
+    (λ c κs. c .loop .inv .0)
+    (λ c. search needs)
     returns
-    enum-known-h
-    differs-requires
+    (λ c. search needs)
+    (λ c κs. (step (c .before) .head, step (c .before) .walks))
     returns-2
-    loop-less
+    (λ c. step (c .before .before .before) .less)
     loop-again)

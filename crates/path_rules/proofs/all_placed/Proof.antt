@@ -1,7 +1,7 @@
 -- The entries from the cursor on decide as all of them do, each by the directories among all.
-use Rattle.path_rules.specs.Turns.{placed, all-end, all-stop, all-next}
-use Rattle.paths.specs.Entries.{told-end, told-found}
+use Rattle.path_rules.specs.Turns.{placed}
 use Rattle.index.specs.Steps.{Walks, Step, entriesFrom}
+use Rattle.index.specs.Turns.{told-end, told-found, all-end, all-stop, all-next}
 use Rattle.rules.specs.Lists.{all}
 use borrow.Author.Tests.{not-true, not-false}
 use denote.Ref.{now}
@@ -16,38 +16,24 @@ Inv-loop img from at₀ at = Walks img at × (all (placed (entriesFrom img from)
 abbrev μ-loop : tie.MeasureT-loop
 μ-loop img from at₀ at = at .left
 
-loop-holds : tie.Need-loop-holds Inv-loop μ-loop
-loop-holds c = (c .before .pre, refl)
-
-next-entry-requires : tie.Need-next-entry-requires Inv-loop μ-loop
-next-entry-requires c κs = c .loop .inv .0
-
-enum-told : tie.Need-enum-told Inv-loop μ-loop
-enum-told c = search needs
-
 returns : tie.Need-returns Inv-loop μ-loop
-returns c = let l = c .before .before .before .loop in
-    all-end _ _ (told-end _ (l .at) _ (c .before .before .next-entry .ensures) (c .enum-told .given .1)) ∙ l .inv .1
+returns c =
+    let n = c .before .before in
+    all-end _ _ (told-end _ _ _ (n .next-entry .ensures) (c .enum-told .given .1)) ∙ n .before .loop .inv .1
 
-enum-known-h : tie.Need-enum-known-h Inv-loop μ-loop
-enum-known-h c = search needs
-
-step : (c : tie.After-known-told Inv-loop μ-loop) → Step (now (c .before .before .before .before .before .before .args .img)) (c .before .before .before .before .loop .at) (c .before .h .given .0 .0) (c .before .h .given .0 .1 .0)
-step c = told-found _ _ _ (c .before .before .before .next-entry .ensures) _ _ (c .before .h .given .1)
-
-is-placed-requires : tie.Need-is-placed-requires Inv-loop μ-loop
-is-placed-requires c κs = (c .before .before .before .before .before .before .pre, step c .head)
+step : (c : tie.After-h Inv-loop μ-loop) → let l = c .before .before .before in
+    Step (now (l .before .before .args .img)) (l .loop .at) (c .h .given .0 .0) (c .h .given .0 .1 .0)
+step c = told-found _ _ _ (c .before .before .next-entry .ensures) _ _ (c .h .given .1)
 
 returns-2 : tie.Need-returns-2 Inv-loop μ-loop
-returns-2 c = let p = c .before .before in
-    all-stop _ _ _ (step p .entries) _ (sym (c .before .is-placed .ensures) ∙ not-true _ (c .if1 .taken)) ∙ p .before .before .before .before .loop .inv .1
-
-loop-less : tie.Need-loop-less Inv-loop μ-loop
-loop-less c = step (c .before .before) .less
+returns-2 c =
+    let h = c .before .before .before in
+    all-stop _ _ _ (step h .entries) _ (sym (c .before .is-placed .ensures) ∙ not-true _ (c .if1 .taken)) ∙ h .before .before .before .loop .inv .1
 
 loop-again : tie.Need-loop-again Inv-loop μ-loop
-loop-again c = let p = c .before .before in
-    (step p .walks, all-next _ _ _ (step p .entries) _ (sym (c .before .is-placed .ensures) ∙ not-false _ (c .if1 .left)) ∙ p .before .before .before .before .loop .inv .1)
+loop-again c =
+    let h = c .before .before .before in
+    (step h .walks, all-next _ _ _ (step h .entries) _ (sym (c .before .is-placed .ensures) ∙ not-false _ (c .if1 .left)) ∙ h .before .before .before .loop .inv .1)
 
 pub all-placed-spec : {M : Type 1} → statement M
 all-placed-spec =
@@ -55,12 +41,12 @@ all-placed-spec =
     (tie.spec
     Inv-loop
     μ-loop
-    loop-holds
-    next-entry-requires
-    enum-told
+    (λ c. (c .before .pre, refl))
+    (λ c κs. c .loop .inv .0)
+    (λ c. search needs)
     returns
-    enum-known-h
-    is-placed-requires
+    (λ c. search needs)
+    (λ c κs. (c .before .before .before .before .before .before .pre, step (c .before) .head))
     returns-2
-    loop-less
+    (λ c. step (c .before .before .before) .less)
     loop-again)

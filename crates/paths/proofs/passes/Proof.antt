@@ -1,4 +1,4 @@
-use Rattle.index.specs.View.{headView}
+use Rattle.slots.specs.View.{headView}
 use Rattle.rules.specs.Paths.{isLive}
 use Rattle.paths.specs.View.{passes}
 use borrow.Author.Needs.{needs}

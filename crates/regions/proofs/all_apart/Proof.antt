@@ -1,3 +1,4 @@
+-- The entries from the cursor on decide as all of them do.
 use mathlib.Core.Path.{_≡_, refl, sym, _∙_}
 use borrow.Author.Tests.{not-true, not-false}
 use borrow.Author.Needs.{needs}
@@ -5,7 +6,7 @@ use denote.Ref.{now}
 use Rattle.rules.specs.Lists.{everyTwo}
 use Rattle.rules.specs.Regions.{apart}
 use Rattle.index.specs.Steps.{Walks, Step, entriesFrom}
-use Rattle.regions.specs.Turns.{ended, stepped, two-end, two-stop, two-next}
+use Rattle.index.specs.Turns.{told-end, told-found, two-end, two-stop, two-next}
 use Rattle.regions.proofs.all_apart.Statement.{statement}
 use Rattle.regions.proofs.all_apart.Tie as tie
 
@@ -15,37 +16,24 @@ Inv-loop img c₀ c = Walks img c × (everyTwo apart (entriesFrom img c) ≡ eve
 abbrev μ-loop : tie.MeasureT-loop
 μ-loop img c₀ c = c .left
 
-loop-holds : tie.Need-loop-holds Inv-loop μ-loop
-loop-holds c = (c .before .pre, refl)
-
-next-entry-requires : tie.Need-next-entry-requires Inv-loop μ-loop
-next-entry-requires c κs = c .loop .inv .0
-
-enum-told : tie.Need-enum-told Inv-loop μ-loop
-enum-told c = search needs
-
 returns : tie.Need-returns Inv-loop μ-loop
-returns c = let l = c .before .before .before .loop in
-    sym (two-end _ _ (ended _ _ _ (c .before .before .next-entry .ensures) (c .enum-told .given .1))) ∙ l .inv .1
+returns c =
+    let n = c .before .before in
+    two-end _ _ (told-end _ _ _ (n .next-entry .ensures) (c .enum-told .given .1)) ∙ n .before .loop .inv .1
 
-step : (c : tie.After-e Inv-loop μ-loop) → Step (now (c .before .before .before .before .before .args .img)) (c .before .before .before .loop .c) (c .e .given .0 .0) (c .e .given .0 .1 .0)
-step c = stepped _ _ _ (c .before .before .next-entry .ensures) _ _ (c .e .given .1)
-
-enum-known-e : tie.Need-enum-known-e Inv-loop μ-loop
-enum-known-e c = search needs
-
-apart-from-rest-requires : tie.Need-apart-from-rest-requires Inv-loop μ-loop
-apart-from-rest-requires c κs = step (c .before) .walks
+step : (c : tie.After-e Inv-loop μ-loop) → let l = c .before .before .before in
+    Step (now (l .before .before .args .img)) (l .loop .c) (c .e .given .0 .0) (c .e .given .0 .1 .0)
+step c = told-found _ _ _ (c .before .before .next-entry .ensures) _ _ (c .e .given .1)
 
 returns-2 : tie.Need-returns-2 Inv-loop μ-loop
-returns-2 c = sym (two-stop _ _ _ (step (c .before .before .before) .entries) _ (sym (c .before .apart-from-rest .ensures) ∙ not-true _ (c .if1 .taken))) ∙ c .before .before .before .before .before .before .loop .inv .1
-
-loop-less : tie.Need-loop-less Inv-loop μ-loop
-loop-less c = step (c .before .before .before) .less
+returns-2 c =
+    let e = c .before .before .before in
+    two-stop _ _ _ (step e .entries) _ (sym (c .before .apart-from-rest .ensures) ∙ not-true _ (c .if1 .taken)) ∙ e .before .before .before .loop .inv .1
 
 loop-again : tie.Need-loop-again Inv-loop μ-loop
-loop-again c = let st = step (c .before .before .before) in
-    (st .walks, two-next _ _ _ (st .entries) _ (sym (c .before .apart-from-rest .ensures) ∙ not-false _ (c .if1 .left)) ∙ c .before .before .before .before .before .before .loop .inv .1)
+loop-again c =
+    let e = c .before .before .before in
+    (step e .walks, two-next _ _ _ (step e .entries) _ (sym (c .before .apart-from-rest .ensures) ∙ not-false _ (c .if1 .left)) ∙ e .before .before .before .loop .inv .1)
 
 pub all-apart-spec : {M : Type 1} → statement M
 all-apart-spec =
@@ -53,12 +41,12 @@ all-apart-spec =
     (tie.spec
     Inv-loop
     μ-loop
-    loop-holds
-    next-entry-requires
-    enum-told
+    (λ c. (c .before .pre, refl))
+    (λ c κs. c .loop .inv .0)
+    (λ c. search needs)
     returns
-    enum-known-e
-    apart-from-rest-requires
+    (λ c. search needs)
+    (λ c κs. step (c .before) .walks)
     returns-2
-    loop-less
+    (λ c. step (c .before .before .before) .less)
     loop-again)

@@ -1,16 +1,17 @@
-use borrow.Author.Tests.{le-leb, lt-leb}
+use mathlib.Core.Path.{sym, _∙_}
 use Rattle.rules.specs.Regions.{apart}
-use Rattle.index.specs.View.{headView}
+use Rattle.slots.specs.View.{headView}
+use borrow.Author.Needs.{needs}
 use Rattle.regions.proofs.regions_apart.Statement.{statement}
 use Rattle.regions.proofs.regions_apart.Tie as tie
 
 returns : tie.Need-returns
 unfolding apart headView
-returns c s = rw (le-leb _ _ (c .if1 .taken))
+returns c s = rw (sym (c .before .is-at-or-before .ensures) ∙ c .if1 .taken)
 
 returns-2 : tie.Need-returns-2
 unfolding apart headView
-returns-2 c s = rw (lt-leb _ _ (c .before .before .if1 .left))
+returns-2 c s = rw (sym (c .before .before .is-at-or-before .ensures) ∙ c .before .if1 .left) (c .is-at-or-before2 .ensures)
 
 pub regions-apart-spec : {M : Type 1} → statement M
-regions-apart-spec = tie.close (tie.spec returns returns-2)
+regions-apart-spec = tie.close (tie.spec (λ c κs. search needs) returns (λ c κs. search needs) returns-2)

@@ -1,28 +1,39 @@
-use borrow.Author.Tests.{le-leb, lt-leb, lt-ltb, le-ltb}
-use Rattle.rules.specs.SuperBlock.{dataEnd}
+use mathlib.Core.Path.{_≡_, sym, _∙_}
+use mathlib.Core.Bool.{true}
+use lib.Dec.{leb}
+use borrow.Author.Tests.{not-true, not-false}
 use Rattle.rules.specs.Regions.{withinData}
-use Rattle.index.specs.View.{headView}
+use Rattle.slots.specs.View.{headView}
 use borrow.Author.Needs.{needs}
 use Rattle.regions.proofs.within_data.Statement.{statement}
 use Rattle.regions.proofs.within_data.Tie as tie
 
-cast-reserved : tie.Need-cast-reserved
-cast-reserved c = search needs
-
 returns : tie.Need-returns
 unfolding withinData headView
-returns c s = rw (lt-leb _ _ (c .if1 .taken))
+returns c s = rw (← c .before .before .data-start .ensures, sym (c .before .is-at-or-before .ensures) ∙ not-true _ (c .if1 .taken))
+
+started : (c : tie.Else1) → let a = c .before .before .before .args in leb (a .g .reserved) (a .h .start .0) ≡ true
+started c = rw (← c .before .before .data-start .ensures) (sym (c .before .is-at-or-before .ensures) ∙ not-false _ (c .if1 .left))
 
 returns-2 : tie.Need-returns-2
 unfolding withinData headView
-returns-2 c s = rw (le-leb _ _ (c .before .before .if1 .left), le-ltb _ _ (c .if2 .taken))
-
-add-result : tie.Need-add-result
-add-result c = search needs
+returns-2 c s = rw (started (c .before .before), sym (c .before .is-before .ensures) ∙ not-true _ (c .if2 .taken))
 
 returns-3 : tie.Need-returns-3
-unfolding withinData headView dataEnd
-returns-3 c s = rw (le-leb _ _ (c .before .before .before .before .if1 .left), lt-ltb _ _ (c .before .before .if2 .left))
+unfolding withinData headView
+returns-3 c s =
+    let e = c .before .before in
+    rw (started (e .before .before), sym (e .before .is-before .ensures) ∙ not-false _ (e .if2 .left), ← c .before .data-end .ensures) (c .is-at-or-before2 .ensures)
 
 pub within-data-spec : {M : Type 1} → statement M
-within-data-spec = tie.close (tie.spec cast-reserved returns returns-2 add-result returns-3)
+within-data-spec =
+    tie.close
+    (tie.spec
+    (λ c κs. search needs)
+    (λ c κs. search needs)
+    returns
+    (λ c κs. search needs)
+    returns-2
+    (λ c κs. search needs)
+    (λ c κs. search needs)
+    returns-3)

@@ -1,6 +1,8 @@
-use mathlib.Core.Path.{sym, _∙_}
+use mathlib.Core.Path.{_≡_, sym, _∙_}
+use mathlib.Core.Bool.{true, _&&_}
+use lib.Dec.{leb}
 use Rattle.geometry.specs.View.{areasFit}
-use Rattle.rules.specs.SuperBlock.{dataEnd}
+use Rattle.rules.specs.SuperBlock.{dataEnd, indexGood}
 use borrow.Author.Tests.{lt-leb, le-leb, not-true, not-false}
 use borrow.Author.Needs.{needs}
 use Rattle.geometry.proofs.Geometry.areas_fit.Statement.{statement}
@@ -13,22 +15,27 @@ returns : tie.Need-returns
 unfolding areasFit
 returns c = rw (sym (c .before .index-good .ensures) ∙ not-true _ (c .if1 .taken))
 
+sized : (c : tie.Else1) → indexGood (c .before .before .args .self .index) ≡ true
+sized c = sym (c .before .index-good .ensures) ∙ not-false _ (c .if1 .left)
+
 returns-2 : tie.Need-returns-2
 unfolding areasFit
-returns-2 c = rw (sym (c .before .before .before .index-good .ensures) ∙ not-false _ (c .before .before .if1 .left), lt-leb _ _ (c .if2 .taken))
+returns-2 c = rw (sized (c .before .before), lt-leb _ _ (c .if2 .taken))
+
+data-start-requires : tie.Need-data-start-requires
+data-start-requires c κs = search needs
 
 ceiling-requires : tie.Need-ceiling-requires
 ceiling-requires c κs = search needs
 
-cast-sum-at-most : tie.Need-cast-sum-at-most
-cast-sum-at-most c = search needs
-
-sum-at-most-requires : tie.Need-sum-at-most-requires
-sum-at-most-requires c κs = search needs
+has-room-requires : tie.Need-has-room-requires
+has-room-requires c κs = search needs
 
 returns-3 : tie.Need-returns-3
 unfolding areasFit dataEnd
-returns-3 c = rw (sym (c .before .before .before .before .before .before .index-good .ensures) ∙ not-false _ (c .before .before .before .before .before .if1 .left), le-leb _ _ (c .before .before .before .if2 .left), ← c .before .before .ceiling .ensures) (c .sum-at-most .ensures)
+returns-3 c =
+    let e = c .before .before .before in
+    rw (sized (e .before .before), le-leb _ _ (e .if2 .left), ← c .before .ceiling .ensures, ← c .before .before .data-start .ensures) (c .has-room .ensures .0)
 
 pub areas-fit-spec : {M : Type 1} → statement M
 areas-fit-spec =
@@ -37,7 +44,7 @@ areas-fit-spec =
     index-good-requires
     returns
     returns-2
+    data-start-requires
     ceiling-requires
-    cast-sum-at-most
-    sum-at-most-requires
+    has-room-requires
     returns-3)

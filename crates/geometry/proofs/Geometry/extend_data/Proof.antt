@@ -6,11 +6,11 @@ use borrow.Author.Needs.{needs}
 use Rattle.geometry.proofs.Geometry.extend_data.Statement.{statement}
 use Rattle.geometry.proofs.Geometry.extend_data.Tie as tie
 
-cast-past : tie.Need-cast-past
-cast-past c = search needs
+data-start-requires : tie.Need-data-start-requires
+data-start-requires c κs = search needs
 
-past-requires : tie.Need-past-requires
-past-requires c κs = search needs
+blocks-past-requires : tie.Need-blocks-past-requires
+blocks-past-requires c κs = search needs
 
 returns : tie.Need-returns
 unfolding extendData withData
@@ -25,4 +25,4 @@ returns-2 c = let a = c .before .before .before .before .args in
     rw (max-eq-left h)
 
 pub extend-data-spec : {M : Type 1} → statement M
-extend-data-spec = tie.close (tie.spec cast-past past-requires returns returns-2)
+extend-data-spec = tie.close (tie.spec data-start-requires blocks-past-requires returns returns-2)
