@@ -119,7 +119,12 @@ pub fn put(img: &mut [u8], stamp: u64, name: &[u8])
     let identifier = start.after_slots(1);
     let end = start.after_slots(SLOTS);
     runs::put_marker(img, start);
-    fields::put_le(img, identifier, STAMP as usize, fields::wide(slots::IDENTIFIER));
+    fields::put_le(
+        img,
+        identifier,
+        STAMP as usize,
+        fields::wide(slots::IDENTIFIER),
+    );
     fields::put_stamp(img, identifier.after(STAMP), stamp);
     copying::write_part(img, identifier.after(NAME), end, name);
 }

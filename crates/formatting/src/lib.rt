@@ -3,47 +3,23 @@
 use blocks::BlockField;
 use geometry::Geometry;
 ghost use mathlib.Core.Path.{_≡_};
-ghost use mathlib.Core.List.{_++_};
-ghost use Prim.Native.Nat.{_-_, _≤_};
+ghost use Prim.Native.Nat.{_≤_};
 ghost use lib.ListN.{length};
-ghost use Rattle.rules.specs.Fields.{splice, signedOf};
-ghost use Rattle.rules.specs.Index.{markerBytes, identifierBytes};
+ghost use Rattle.rules.specs.Fields.{signedOf};
 ghost use Rattle.rules.specs.Writing.{freshGeometry, formatted, formatOf};
 ghost use Rattle.rules.specs.Writing.Laws.{writtenAs};
 ghost use Rattle.geometry.specs.View.{geometryView};
 
-// The index of a fresh volume: its two slots at the end of the image.
-const INDEX: usize = 128;
-
-// The places in it: the identifier, its stamp and its name.
-const IDENTIFIER: usize = 64;
-
-const STAMP: usize = IDENTIFIER + 4;
-
-const NAME: usize = IDENTIFIER + 12;
-
 // The most blocks that the super-block can say are reserved.
 const MOST_RESERVED: u64 = 0xFFFF_FFFF;
 
-// The start marker and the volume identifier. The identifier's type and the zeros behind it are a number of four bytes.
-fn put_ends(img: &mut [u8], stamp: u64, name: &[u8])
-    requires { ⌜ (128 ≤ length (now img)) × (length (now name) ≤ 52) ⌝ }
-    ensures { λ _. ⌜ now (img .exit) ≡ splice (now (img .entry)) (length (now (img .entry)) - 128) (markerBytes ++ identifierBytes (signedOf stamp) (now (name .entry))) ⌝ }
-{
-    let at = img.len() - INDEX;
-    copying::write_part(img, at, at + IDENTIFIER, b"\x02");
-    fields::put_le(img, at + IDENTIFIER, 4, 0x01);
-    fields::put_le(img, at + STAMP, 8, stamp);
-    copying::write_part(img, at + NAME, at + INDEX, name);
-}
-
-// The super-block, and the two slots.
+// The super-block, and the two ends of the index.
 fn write_volume(img: &mut [u8], g: Geometry, name: &[u8])
     requires { ⌜ (1024 ≤ length (now img)) × (length (now name) ≤ 51) ⌝ }
     ensures { λ _. ⌜ now (img .exit) ≡ formatted (now (img .entry)) (geometryView g) (now (name .entry)) ⌝ }
 {
     super_block::put_super(img, g);
-    put_ends(img, g.stamp, name);
+    ends::put(img, g.stamp, name);
 }
 
 // The geometry of a fresh volume in an image of n bytes.
@@ -55,7 +31,7 @@ fn fresh(n: u64, field: u8, reserved: u32, stamp: u64) -> Geometry
     Geometry {
         stamp,
         data: 0,
-        index: INDEX as u64,
+        index: ends::BYTES,
         version: 0x10,
         total,
         reserved,

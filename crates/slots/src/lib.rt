@@ -158,7 +158,11 @@ pub fn slots_at(img: &[u8], at: Offset) -> u64
 pub fn name_at(kind: u8) -> u64
     ensures { λ r. ⌜ (r ≡ nameAt kind) × (r ≤ 34) ⌝ }
 {
-    if is_file(kind) { FILE_NAME } else { DIRECTORY_NAME }
+    if is_file(kind) {
+        FILE_NAME
+    } else {
+        DIRECTORY_NAME
+    }
 }
 
 // The fewest slots that continue a name of n bytes and its zero. n is taken apart so that no sum wraps, however large it is.

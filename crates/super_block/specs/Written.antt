@@ -1,47 +1,28 @@
 -- A super-block that is written field by field: writings side by side are one.
-use Prim.Native.Nat.{ℕ, _+_, _^_, _≤_, _<_}
+use Prim.Native.Nat.{ℕ, _+_, _≤_, _<_}
 use mathlib.Core.Path.{_≡_, refl, sym, ap, _∙_}
 use mathlib.Core.List.{List, [], _∷_, _++_, append-assoc}
 use native.Mathlib.Omega.{arith}
-use native.Mathlib.Nat.{mod-eq-of-lt}
 use lib.ListN.{length, length-append}
-use lib.IntN.{ℤ}
 use Rattle.rules.specs.Lists.{part}
-use Rattle.rules.specs.Fields.{leBytes, splice, signedOf, bitsOf, stampBytes, checksumOf}
-use Rattle.rules.specs.Fields.Laws.{length-leBytes, splice-splice, part-splice-in}
-use Rattle.rules.specs.Fields.Signed.{bits-signed}
+use Rattle.rules.specs.Fields.{leBytes, splice, stampBytes, checksumOf}
+use Rattle.rules.specs.Fields.Laws.{length-leBytes, part-splice-in}
 use Rattle.rules.specs.SuperBlock.{Geometry, superBlockAt, dataAt, indexAt, magicAt, versionAt, totalAt, reservedAt, blockFieldAt, magic, sizesBytes, summedBytes, superBlockBytes, putSizes}
 use Rattle.rules.specs.SuperBlock.Laws.{length-sizes, length-summed, length-putSizes}
-
-pub byte-alone : (b : ℕ) → b < 256 → leBytes 1 b ≡ b ∷ []
-unfolding leBytes
-byte-alone b h = rw (mod-eq-of-lt h)
-
--- n bytes, and what is written behind them
-pub join : (s : List ℕ) (at : ℕ) (xs : List ℕ) (n : ℕ) (ys : List ℕ) → length xs ≡ n → at + (n + length ys) ≤ length s
-    → splice (splice s at xs) (at + n) ys ≡ splice s at (xs ++ ys)
-join s at xs n ys e h = rw (← e) (splice-splice s at xs ys (rw e h))
-
-pub stamp-bits : (b : ℕ) → b < 2 ^ 64 → leBytes 8 b ≡ stampBytes (signedOf b)
-unfolding stampBytes
-stamp-bits b h = rw (bits-signed b h)
-
-pub length-stamp : (z : ℤ) → length (stampBytes z) ≡ 8
-unfolding stampBytes
-length-stamp z = length-leBytes 8 (bitsOf z)
+use Rattle.fields.specs.Written.{byte-alone, join, length-stamp}
 
 magic-number : leBytes 3 0x53_4653 ≡ magic
 unfolding leBytes
 magic-number = refl
 
 module _ (s : List ℕ) (room : 0x1BE ≤ length s) (g : Geometry) where
-  pub sizes-put : (s₁ s₂ s₃ : List ℕ)
-      → s₁ ≡ splice s superBlockAt (stampBytes (g .stamp))
-      → s₂ ≡ splice s₁ dataAt (leBytes 8 (g .dataBlocks))
-      → s₃ ≡ splice s₂ indexAt (leBytes 8 (g .indexBytes))
+  pub sizes-put : (p q r : ℕ) → p ≡ superBlockAt → q ≡ dataAt → r ≡ indexAt → (s₁ s₂ s₃ : List ℕ)
+      → s₁ ≡ splice s p (stampBytes (g .stamp))
+      → s₂ ≡ splice s₁ q (leBytes 8 (g .dataBlocks))
+      → s₃ ≡ splice s₂ r (leBytes 8 (g .indexBytes))
       → s₃ ≡ putSizes s g
   unfolding putSizes sizesBytes
-  sizes-put s₁ s₂ s₃ e₁ e₂ e₃ =
+  sizes-put p q r p-is q-is r-is s₁ s₂ s₃ e₁ e₂ e₃ =
       let x = stampBytes (g .stamp) in
       let y = leBytes 8 (g .dataBlocks) in
       let z = leBytes 8 (g .indexBytes) in
@@ -49,21 +30,24 @@ module _ (s : List ℕ) (room : 0x1BE ≤ length s) (g : Geometry) where
         e₃,
         e₂,
         e₁,
+        p-is,
+        q-is,
+        r-is,
         join s superBlockAt x 8 y (length-stamp _) (rw length-leBytes (omega arith)),
         join s superBlockAt (x ++ y) 16 z (simp (length-append, length-stamp, length-leBytes)) (rw length-leBytes (omega arith)),
       )
       (ap (splice s superBlockAt) (append-assoc x y z))
 
-  pub summed-put : (s₁ s₂ s₃ s₄ s₅ : List ℕ) (v b : ℕ)
+  pub summed-put : (p₁ p₂ p₃ p₄ p₅ : ℕ) → p₁ ≡ magicAt → p₂ ≡ versionAt → p₃ ≡ totalAt → p₄ ≡ reservedAt → p₅ ≡ blockFieldAt → (s₁ s₂ s₃ s₄ s₅ : List ℕ) (v b : ℕ)
       → v ≡ g .version → v < 256 → b ≡ g .blockField → b < 256
-      → s₁ ≡ splice s magicAt (leBytes 3 0x53_4653)
-      → s₂ ≡ splice s₁ versionAt (leBytes 1 v)
-      → s₃ ≡ splice s₂ totalAt (leBytes 8 (g .total))
-      → s₄ ≡ splice s₃ reservedAt (leBytes 4 (g .reserved))
-      → s₅ ≡ splice s₄ blockFieldAt (leBytes 1 b)
+      → s₁ ≡ splice s p₁ (leBytes 3 0x53_4653)
+      → s₂ ≡ splice s₁ p₂ (leBytes 1 v)
+      → s₃ ≡ splice s₂ p₃ (leBytes 8 (g .total))
+      → s₄ ≡ splice s₃ p₄ (leBytes 4 (g .reserved))
+      → s₅ ≡ splice s₄ p₅ (leBytes 1 b)
       → s₅ ≡ splice s magicAt (summedBytes g)
   unfolding summedBytes
-  summed-put s₁ s₂ s₃ s₄ s₅ v b v-is v-fits b-is b-fits e₁ e₂ e₃ e₄ e₅ =
+  summed-put p₁ p₂ p₃ p₄ p₅ i₁ i₂ i₃ i₄ i₅ s₁ s₂ s₃ s₄ s₅ v b v-is v-fits b-is b-fits e₁ e₂ e₃ e₄ e₅ =
       let x = g .version ∷ [] in
       let y = leBytes 8 (g .total) in
       let z = leBytes 4 (g .reserved) in
@@ -76,6 +60,11 @@ module _ (s : List ℕ) (room : 0x1BE ≤ length s) (g : Geometry) where
         e₃,
         e₂,
         e₁,
+        i₁,
+        i₂,
+        i₃,
+        i₄,
+        i₅,
         magic-number,
         ex,
         ew,
@@ -93,13 +82,14 @@ module _ (s : List ℕ) (room : 0x1BE ≤ length s) (g : Geometry) where
         let fits : magicAt + length (summedBytes g) ≤ length (putSizes s g) = omega (arith, length-summed g, length-putSizes s g room) in
         rw sums (rw length-summed at (part-splice-in (putSizes s g) magicAt (summedBytes g) fits))
 
-    pub super-put : (k : ℕ) (u : List ℕ) → k ≡ checksumOf (part t magicAt 17) → k < 256 → u ≡ splice t (blockFieldAt + 1) (leBytes 1 k) → u ≡ splice s superBlockAt (superBlockBytes g)
+    pub super-put : (k p : ℕ) (u : List ℕ) → p ≡ blockFieldAt + 1 → k ≡ checksumOf (part t magicAt 17) → k < 256 → u ≡ splice t p (leBytes 1 k) → u ≡ splice s superBlockAt (superBlockBytes g)
     unfolding putSizes superBlockBytes
-    super-put k u k-is k-fits e =
+    super-put k p u p-is k-is k-fits e =
         let z = k ∷ [] in
         let i : checksumOf (summedBytes g) ≡ k = sym (k-is ∙ ap checksumOf summed-part) in
         rw (
           e,
+          p-is,
           sums,
           byte-alone k k-fits,
           join s superBlockAt (sizesBytes g) 24 (summedBytes g) (length-sizes g) (omega (arith, length-summed g)),

@@ -2,15 +2,15 @@
 
 use geometry::Geometry;
 use index::Cursor;
+use units::Offset;
 use units::Slot;
 ghost use mathlib.Core.Path.{_≡_};
-ghost use mathlib.Core.Bool.{_&&_};
-ghost use Prim.Native.Nat.{_+_, _≤_};
+ghost use Prim.Native.Nat.{_≤_};
 ghost use lib.ListN.{length};
-ghost use Rattle.rules.specs.Fields.{splice, signedOf, stampBytes};
+ghost use Rattle.rules.specs.Fields.{splice};
 ghost use Rattle.rules.specs.SuperBlock.{lengthGood, geometryOf, magicAt, superBlockAt, summedBytes, superBlockBytes, putSizes};
 ghost use Rattle.rules.specs.Refusals.{magicGood, versionGood, checksumGood, judgeGeometry};
-ghost use Rattle.rules.specs.Index.{volumeName, identifierGood, markerGood, slotAt, itemsOf, indexSound};
+ghost use Rattle.rules.specs.Index.{slotAt, itemsOf, indexSound};
 ghost use Rattle.geometry.specs.View.{geometryView};
 ghost use Rattle.index.specs.View.{Inside, itemsFrom};
 ghost use Rattle.super_block.specs.View.{superView, Judged};
@@ -50,12 +50,12 @@ pub fn read_geometry(img: &[u8]) -> Geometry
     ensures { λ r. ⌜ geometryView r ≡ geometryOf (now (img .entry)) ⌝ }
 {
     Geometry {
-        stamp: fields::le64_at(img, START),
-        data: fields::le64_at(img, DATA),
-        index: fields::le64_at(img, INDEX),
+        stamp: fields::le64_at(img, Offset::at(START)),
+        data: fields::le64_at(img, Offset::at(DATA)),
+        index: fields::le64_at(img, Offset::at(INDEX)),
         version: img[VERSION],
-        total: fields::le64_at(img, TOTAL),
-        reserved: fields::le32_at(img, RESERVED),
+        total: fields::le64_at(img, Offset::at(TOTAL)),
+        reserved: fields::le32_at(img, Offset::at(RESERVED)),
         field: img[FIELD],
     }
 }
@@ -121,52 +121,7 @@ pub fn judge_super(img: &[u8]) -> SuperBlock
     SuperBlock::Good(g)
 }
 
-// ---- refusal 6: the two ends of the index, and the slots between them
-
-// The length of the volume's name: it ends at the first zero of its field, the last 52 bytes.
-pub fn volume_name_len(img: &[u8]) -> usize
-    requires { ⌜ 64 ≤ length (now img) ⌝ }
-    ensures { λ r. ⌜ (r ≡ length (volumeName (now (img .entry)))) × (r ≤ 52) ⌝ }
-{
-    fields::zero_at(&img[img.len() - 52..])
-}
-
-// The volume identifier is the last slot.
-fn identifier_good(img: &[u8]) -> bool
-    requires { ⌜ 64 ≤ length (now img) ⌝ }
-    ensures { λ r. ⌜ r ≡ identifierGood (now (img .entry)) ⌝ }
-{
-    let n = img.len();
-    if img[n - 64] != 0x01 {
-        return false;
-    }
-    let len = volume_name_len(img);
-    if len == 52 {
-        return false;
-    }
-    names::volume_text_good(&img[n - 52..n - 52 + len])
-}
-
-// The start marker is the first slot.
-fn marker_good(img: &[u8], g: Geometry) -> bool
-    requires { ⌜ Judged (now img) g ⌝ }
-    ensures { λ r. ⌜ r ≡ markerGood (now (img .entry)) (geometryView g) ⌝ }
-{
-    let start = units::index_start(img.len() as u64, g.index);
-    let at = start.0;
-    img[at] == 0x02
-}
-
-// Whether the two ends of the index are good.
-pub fn ends_good(img: &[u8], g: Geometry) -> bool
-    requires { ⌜ Judged (now img) g ⌝ }
-    ensures { λ r. ⌜ r ≡ (markerGood (now (img .entry)) (geometryView g) && identifierGood (now (img .entry))) ⌝ }
-{
-    if !marker_good(img, g) {
-        return false;
-    }
-    identifier_good(img)
-}
+// ---- refusal 6: the slots between the two ends of the index
 
 // The cursor at slot 1, behind the start marker; the volume identifier is not among the slots left.
 pub fn first_slot(img: &[u8], g: Geometry) -> Cursor
@@ -174,11 +129,11 @@ pub fn first_slot(img: &[u8], g: Geometry) -> Cursor
     ensures { λ r. ⌜ (itemsFrom (now (img .entry)) r ≡ itemsOf (now (img .entry)) (geometryView g)) × Inside (now (img .entry)) r × (r .at .0 ≡ slotAt (now (img .entry)) (geometryView g) (r .slot .0)) ⌝ }
 {
     let start = units::index_start(img.len() as u64, g.index);
-    let slot = Slot(1);
+    let slot = Slot::at(1);
     Cursor {
         at: slot.offset(start),
         slot,
-        left: units::slots_in(g.index) - 2,
+        left: units::slots_in(g.index) - ends::SLOTS,
     }
 }
 
@@ -187,7 +142,7 @@ pub fn index_sound(img: &[u8], g: Geometry) -> bool
     requires { ⌜ Judged (now img) g ⌝ }
     ensures { λ r. ⌜ r ≡ indexSound (now (img .entry)) (geometryView g) (itemsOf (now (img .entry)) (geometryView g)) ⌝ }
 {
-    if !ends_good(img, g) {
+    if !ends::are_good(img, g) {
         return false;
     }
     index::walk_sound(img, first_slot(img, g))
@@ -195,22 +150,14 @@ pub fn index_sound(img: &[u8], g: Geometry) -> bool
 
 // ---- writing
 
-// A stamp by its bits. That they are below 2 ^ 64, as the rules' stamp has them, is said once, here.
-pub fn put_stamp(img: &mut [u8], at: usize, bits: u64)
-    requires { ⌜ at + 8 ≤ length (now img) ⌝ }
-    ensures { λ _. ⌜ now (img .exit) ≡ splice (now (img .entry)) at (stampBytes (signedOf bits)) ⌝ }
-{
-    fields::put_le(img, at, 8, bits);
-}
-
 // The stamp and the two sizes.
 pub fn put_sizes(img: &mut [u8], g: Geometry)
     requires { ⌜ 0x1BE ≤ length (now img) ⌝ }
     ensures { λ _. ⌜ now (img .exit) ≡ putSizes (now (img .entry)) (geometryView g) ⌝ }
 {
-    put_stamp(img, START, g.stamp);
-    fields::put_le(img, DATA, 8, g.data);
-    fields::put_le(img, INDEX, 8, g.index);
+    fields::put_stamp(img, Offset::at(START), g.stamp);
+    fields::put_le(img, Offset::at(DATA), 8, g.data);
+    fields::put_le(img, Offset::at(INDEX), 8, g.index);
 }
 
 // Magic to block size field: what the checksum is over. The magic is a number of three bytes.
@@ -218,11 +165,11 @@ fn put_summed(img: &mut [u8], g: Geometry)
     requires { ⌜ 0x1BE ≤ length (now img) ⌝ }
     ensures { λ _. ⌜ now (img .exit) ≡ splice (now (img .entry)) magicAt (summedBytes (geometryView g)) ⌝ }
 {
-    fields::put_le(img, MAGIC, 3, 0x53_4653);
-    fields::put_le(img, VERSION, 1, fields::wide(g.version));
-    fields::put_le(img, TOTAL, 8, g.total);
-    fields::put_le(img, RESERVED, 4, g.reserved as u64);
-    fields::put_le(img, FIELD, 1, fields::wide(g.field));
+    fields::put_le(img, Offset::at(MAGIC), 3, 0x53_4653);
+    fields::put_le(img, Offset::at(VERSION), 1, fields::wide(g.version));
+    fields::put_le(img, Offset::at(TOTAL), 8, g.total);
+    fields::put_le(img, Offset::at(RESERVED), 4, g.reserved as u64);
+    fields::put_le(img, Offset::at(FIELD), 1, fields::wide(g.field));
 }
 
 // The whole super-block.
@@ -233,5 +180,5 @@ pub fn put_super(img: &mut [u8], g: Geometry)
     put_sizes(img, g);
     put_summed(img, g);
     let sum = fields::checksum(&img[MAGIC..CHECKSUM]);
-    fields::put_le(img, CHECKSUM, 1, fields::wide(sum));
+    fields::put_le(img, Offset::at(CHECKSUM), 1, fields::wide(sum));
 }

@@ -30,7 +30,7 @@ same-length c = search needs
 
 returns : tie.Need-returns
 unfolding part
-returns c =     let i = c .before .before .before .before .before in
+returns c = let i = c .before .before .before .before .before in
     let a = i .before .before .before .args in
     let x = i .index .result in
     let w : x + a .n - x ≡ a .n = omega arith in

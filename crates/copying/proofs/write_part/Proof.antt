@@ -34,7 +34,7 @@ same-length : tie.Need-same-length
 same-length c = search needs
 
 returns : tie.Need-returns
-returns c =     let i = c .before .before .before .before in
+returns c = let i = c .before .before .before .before in
     let a = i .before .before .before .before .args in
     let call = c .before .before .copy-and-zero in
     let s = now (a .img) in

@@ -22,7 +22,7 @@ zero-at-requires : tie.Need-zero-at-requires
 zero-at-requires c κs = search needs
 
 returns-2 : tie.Need-returns-2
-returns-2 c =     let k = c .before .before .before .before in
+returns-2 c = let k = c .before .before .before .before in
     let i = k .before in
     identifier-unended (now (i .before .before .args .img)) _ (i .identifier .ensures .0) _ (k .kind-at .ensures) _ (c .before .before .volume-field .ensures) _ (c .before .zero-at .ensures .0) (c .if2 .taken)
 
@@ -33,7 +33,7 @@ volume-text-good-requires : tie.Need-volume-text-good-requires
 volume-text-good-requires c κs = search needs
 
 returns-3 : tie.Need-returns-3
-returns-3 c =     let z = c .before .before .before in
+returns-3 c = let z = c .before .before .before in
     let k = z .before .before .before in
     let i = k .before in
     identifier-named (now (i .before .before .args .img)) _ (i .identifier .ensures .0) _ (k .kind-at .ensures) _ (z .before .volume-field .ensures) _ (z .zero-at .ensures .0)

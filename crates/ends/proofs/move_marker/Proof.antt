@@ -15,7 +15,7 @@ same-length : tie.Need-same-length
 same-length c = search needs
 
 returns : tie.Need-returns
-returns c =     let i = c .before .before .before .before in
+returns c = let i = c .before .before .before .before in
     let a = i .before .before .before .before .before .args in
     marker-moves (now (a .img)) _ (geometryView (a .old)) (geometryView (a .new)) _ (i .before .if1 .taken) (i .index-start .ensures) (c .before .before .put-marker .ensures)
 

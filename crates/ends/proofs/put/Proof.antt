@@ -41,7 +41,7 @@ same-length : tie.Need-same-length
 same-length c = search needs
 
 returns : tie.Need-returns
-returns c =     let st = c .before .before .before .before .before .before .before in
+returns c = let st = c .before .before .before .before .before .before .before in
     let le = st .before .before .before .before .before in
     let mk = le .before .before .before .before .before in
     let i = mk .before .before .before .before in

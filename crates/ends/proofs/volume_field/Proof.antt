@@ -25,7 +25,7 @@ part-result-end : tie.Need-part-result-end
 part-result-end c = search needs
 
 returns : tie.Need-returns
-returns c =     let i = c .before .before .before .identifier in
+returns c = let i = c .before .before .before .identifier in
     field-read (now (c .before .before .before .before .before .args .img)) _ (i .ensures .0) (i .ensures .1) _ (c .before .index .ensures ∙ c .before .before .after .ensures)
 
 pub volume-field-spec : {M : Type 1} → statement M

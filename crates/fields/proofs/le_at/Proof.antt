@@ -52,7 +52,7 @@ loop-less : tie.Need-loop-less Inv-loop μ-loop
 loop-less c = search needs
 
 loop-again : tie.Need-loop-again Inv-loop μ-loop
-loop-again c =     let i = c .before .before .before .before .index .result in
+loop-again c = let i = c .before .before .before .before .index .result in
     let a = c .before .before .before .before .before .before .args in
     let o = c .before .before .before .loop .o in (
       omega arith,
@@ -62,7 +62,7 @@ loop-again c =     let i = c .before .before .before .before .index .result in
     )
 
 returns : tie.Need-returns Inv-loop μ-loop
-returns c =     let l = c .before .loop in
+returns c = let l = c .before .loop in
     let a = c .before .before .before .before .args in
     let eo : l .o ≡ a .at .0 = omega arith in
     let ei : c .before .before .index .result ≡ a .at .0 = c .before .before .index .ensures in

@@ -43,7 +43,7 @@ same-length : tie.Need-same-length Inv-loop μ-loop
 same-length c = search needs
 
 returns : tie.Need-returns Inv-loop μ-loop
-returns c =     let l = c .before .loop in
+returns c = let l = c .before .loop in
     let z : l .n ≡ 0 = omega arith in
     sym (splice-nil (l .s) (l .o)) ∙ (rw (z, leBytes-zero, c .before .before .index .ensures) at (l .inv .2))
 

@@ -13,7 +13,7 @@ use Rattle.index.proofs.lowest_unused.Statement.{statement}
 use Rattle.index.proofs.lowest_unused.Tie as tie
 
 abbrev Inv-loop : tie.InvT-loop
-Inv-loop img n c₀ first₀ c first =     Walks img c × (first .0 ≤ c .slot .0) × (c .slot .0 - first .0 < n) × (lowestFrom n img (first .0) c ≡ lowestUnused n (itemsFrom img c₀))
+Inv-loop img n c₀ first₀ c first = Walks img c × (first .0 ≤ c .slot .0) × (c .slot .0 - first .0 < n) × (lowestFrom n img (first .0) c ≡ lowestUnused n (itemsFrom img c₀))
 
 abbrev μ-loop : tie.MeasureT-loop
 μ-loop img n c₀ first₀ c first = c .left
@@ -35,17 +35,17 @@ head-at-requires : tie.Need-head-at-requires Inv-loop μ-loop
 head-at-requires c κs = omega (arith, c .before .before .before .before .before .loop .inv .0 .inside .fits, c .before .before .before .if1 .taken)
 
 past-requires : tie.Need-past-requires Inv-loop μ-loop
-past-requires c κs =     let w = c .before .before .before .before .before .before .loop .inv .0 in
+past-requires c κs = let w = c .before .before .before .before .before .before .loop .inv .0 in
     (slots-left _ _ w (c .before .before .before .before .if1 .taken) (type-is (c .before .before) ∙ c .before .if2 .taken) _ (c .head-at .ensures .0), omega (arith, w .inside .fits, w .inside .short), w .inside .numbers)
 
 loop-less : tie.Need-loop-less Inv-loop μ-loop
-loop-less c =     let y = c .before .before .before .before in
+loop-less c = let y = c .before .before .before .before in
     let l = y .before .before .before .before .loop in
     let v = c .before .before .head-at .ensures in
     step-found _ (l .c) (l .inv .0) (y .before .before .if1 .taken) (type-is y ∙ c .before .before .before .if2 .taken) _ _ (v .0) (v .1 .0) (v .1 .1) (c .before .past .ensures) .less
 
 loop-again : tie.Need-loop-again Inv-loop μ-loop
-loop-again c =     let y = c .before .before .before .before in
+loop-again c = let y = c .before .before .before .before in
     let l = y .before .before .before .before .loop in
     let v = c .before .before .head-at .ensures in
     let m = y .before .before .if1 .taken in
@@ -64,7 +64,7 @@ slots-to-requires : tie.Need-slots-to-requires Inv-loop μ-loop
 slots-to-requires c κs = omega (arith, c .before .before .before .before .before .before .loop .inv .1, c .past2 .ensures .slot)
 
 returns : tie.Need-returns Inv-loop μ-loop
-returns c =     let y = c .before .before .before .before in
+returns c = let y = c .before .before .before .before in
     let l = y .before .before .before .before .loop in
     let p = c .before .before .past2 in
     let t = type-is y ∙ c .before .before .before .if2 .left in
@@ -76,7 +76,7 @@ loop-less-2 : tie.Need-loop-less-2 Inv-loop μ-loop
 loop-less-2 c = omega (arith, c .before .before .past2 .ensures .left, c .before .before .before .before .before .before .if1 .taken)
 
 loop-again-2 : tie.Need-loop-again-2 Inv-loop μ-loop
-loop-again-2 c =     let y = c .before .before .before .before in
+loop-again-2 c = let y = c .before .before .before .before in
     let l = y .before .before .before .before .loop in
     let p = c .before .before .past2 .ensures in
     let m = y .before .before .if1 .taken in

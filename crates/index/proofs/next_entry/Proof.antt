@@ -40,7 +40,7 @@ loop-less : tie.Need-loop-less Inv-loop μ-loop
 loop-less c = omega (arith, c .past .ensures .left, c .before .before .before .before .if1 .taken)
 
 loop-again : tie.Need-loop-again Inv-loop μ-loop
-loop-again c =     let l = c .before .before .before .before .before .before .loop in
+loop-again c = let l = c .before .before .before .before .before .before .loop in
     let m = c .before .before .before .before .if1 .taken in
     let t = type-is (c .before .before) ∙ c .before .if2 .left in
     let p = c .past .ensures in

@@ -12,7 +12,7 @@ slots-at-requires : tie.Need-slots-at-requires
 slots-at-requires c κs = search needs
 
 returns : tie.Need-returns
-returns c =     let a = c .before .before .before .args in
+returns c = let a = c .before .before .before .args in
     (run-long (a .left) _ (drop (a .at .0) (now (a .img))) (c .before .slots-at .ensures .0) (c .if1 .taken), omega arith)
 
 name-field-requires : tie.Need-name-field-requires
@@ -22,12 +22,12 @@ name-good-requires : tie.Need-name-good-requires
 name-good-requires c κs = search needs
 
 returns-2 : tie.Need-returns-2
-returns-2 c =     let n = c .before .before .before .before in
+returns-2 c = let n = c .before .before .before .before in
     let a = n .before .before .args in
     (run-nameless (a .left) _ (drop (a .at .0) (now (a .img))) (n .slots-at .ensures .0) _ _ (c .before .name-good .ensures) (c .before .before .name-field .ensures) (not-true _ (c .if2 .taken)), omega arith)
 
 returns-3 : tie.Need-returns-3
-returns-3 c =     let n = c .before .before .before .before in
+returns-3 c = let n = c .before .before .before .before in
     let a = n .before .before .args in
     (run-named (a .left) _ (drop (a .at .0) (now (a .img))) (n .slots-at .ensures .0) _ _ (c .before .name-good .ensures) (c .before .before .name-field .ensures) (not-false _ (c .if2 .left)) (c .before .before .before .if1 .left), c .before .before .before .if1 .left)
 

@@ -22,7 +22,7 @@ slot-step-requires : tie.Need-slot-step-requires Inv-loop μ-loop
 slot-step-requires c κs = omega (arith, c .before .before .loop .inv .0 .fits)
 
 returns : tie.Need-returns Inv-loop μ-loop
-returns c =     let l = c .before .before .before .before .loop in
+returns c = let l = c .before .before .before .before .loop in
     sym (walk-stops (l .c .left) (l .c .slot .0) (drop (l .c .at .0) _) (c .before .before .if1 .taken) (sym (c .before .slot-step .ensures .0) ∙ c .if2 .taken)) ∙ l .inv .1
 
 past-requires : tie.Need-past-requires Inv-loop μ-loop
@@ -32,7 +32,7 @@ loop-less : tie.Need-loop-less Inv-loop μ-loop
 loop-less c = omega (arith, c .past .ensures .left, c .before .if2 .left, c .before .before .slot-step .ensures .1)
 
 loop-again : tie.Need-loop-again Inv-loop μ-loop
-loop-again c =     let l = c .before .before .before .before .before .loop in
+loop-again c = let l = c .before .before .before .before .before .loop in
     let n = c .before .before .slot-step in
     (past-inside _ (l .c) _ _ (c .past .ensures) (l .inv .0) (n .ensures .1), walk-turns _ (l .c) _ _ (c .past .ensures) (c .before .before .before .if1 .taken) (n .ensures .0) (c .before .if2 .left) ∙ l .inv .1)
 

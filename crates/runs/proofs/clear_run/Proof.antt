@@ -10,7 +10,7 @@ use Rattle.runs.proofs.clear_run.Statement.{statement}
 use Rattle.runs.proofs.clear_run.Tie as tie
 
 abbrev Inv-loop : tie.InvT-loop
-Inv-loop img₀ slots place₀ left₀ img place left =     (place .0 + 64 * left ≡ place₀ .0 + 64 * slots) × (length img ≡ length img₀) × (splice img (place .0) (unusedBytes left) ≡ splice img₀ (place₀ .0) (unusedBytes slots))
+Inv-loop img₀ slots place₀ left₀ img place left = (place .0 + 64 * left ≡ place₀ .0 + 64 * slots) × (length img ≡ length img₀) × (splice img (place .0) (unusedBytes left) ≡ splice img₀ (place₀ .0) (unusedBytes slots))
 
 abbrev μ-loop : tie.MeasureT-loop
 μ-loop img₀ slots place₀ left₀ img place left = left
@@ -31,14 +31,14 @@ loop-less : tie.Need-loop-less Inv-loop μ-loop
 loop-less c = search needs
 
 loop-again : tie.Need-loop-again Inv-loop μ-loop
-loop-again c =     let l = c .before .before .before .before .before .before .loop in
+loop-again c = let l = c .before .before .before .before .before .before .loop in
     (omega arith, omega (arith, c .before .before .before .put-bare .kept), unused-turn _ _ (l .place .0) (l .left) _ (c .before .before .before .before .before .loop-test .taken) (omega arith) (c .after-slots .ensures) (c .before .before .before .put-bare .ensures) ∙ l .inv .2)
 
 same-length : tie.Need-same-length Inv-loop μ-loop
 same-length c = search needs
 
 returns : tie.Need-returns Inv-loop μ-loop
-returns c =     let l = c .before .loop in
+returns c = let l = c .before .loop in
     sym (unused-end _ (l .place .0) (l .left) (omega arith)) ∙ l .inv .2
 
 pub clear-run-spec : {M : Type 1} → statement M

@@ -19,7 +19,7 @@ same-length : tie.Need-same-length
 same-length c = search needs
 
 returns : tie.Need-returns
-returns c =     let x = c .before .before .before .before .before .before .before in
+returns c = let x = c .before .before .before .before .before .before .before in
     let w : c .before .before .before .before .after-slots .result .0 - x .args .at .0 ≡ 64 = omega arith in
     c .before .before .write-part .ensures ∙ rw w
 

@@ -16,13 +16,13 @@ same-length : tie.Need-same-length
 same-length c = search needs
 
 returns : tie.Need-returns
-returns c =     let t = c .before .before .before .before in
+returns c = let t = c .before .before .before .before in
     let x = t .before .before .before in
     let h = x .args .h in
     fields-some (now (x .args .img)) (h .at .0 + 10) (h .kind) _ _ (sym (t .before .is-file .ensures) ∙ t .if1 .taken) (c .before .before .put-file .ensures)
 
 returns-2 : tie.Need-returns-2
-returns-2 c =     let x = c .before .before .before in
+returns-2 c = let x = c .before .before .before in
     let h = x .args .h in
     fields-none (now (x .args .img)) (h .at .0 + 10) (h .kind) _ (sym (c .before .is-file .ensures) ∙ c .if1 .left)
 

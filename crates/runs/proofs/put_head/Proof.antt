@@ -33,7 +33,7 @@ same-length : tie.Need-same-length
 same-length c = search needs
 
 returns : tie.Need-returns
-returns c =     let m = c .before .before .before .before .before .before .before in
+returns c = let m = c .before .before .before .before .before .before .before in
     let f = m .before .before .before .before .before .before in
     let x = f .before .before .before .before in
     let h = x .args .h in

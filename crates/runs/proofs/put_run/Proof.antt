@@ -28,7 +28,7 @@ same-length : tie.Need-same-length
 same-length c = search needs
 
 returns : tie.Need-returns
-returns c =     let n = c .before .before .before .before .before .before in
+returns c = let n = c .before .before .before .before .before .before in
     let f = n .before .before .before in
     let k = f .before .before .before .before in
     let x = k .before .before .before .before in

@@ -23,7 +23,7 @@ same-length : tie.Need-same-length
 same-length c = search needs
 
 returns : tie.Need-returns
-returns c =     let f = c .before .before .before .before .before .before .before in
+returns c = let f = c .before .before .before .before .before .before .before in
     let x = f .before .before .before .before in
     retype-put (now (x .args .img)) _ _ (x .args .at .0) (x .args .kind) _ _ (signedOf (x .args .stamp)) (f .before .wide .ensures .0) (f .before .wide .ensures .1)
     (c .before .before .before .after .ensures) (f .put-le .ensures) (c .before .before .put-stamp .ensures)

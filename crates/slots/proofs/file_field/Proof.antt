@@ -20,14 +20,14 @@ le64-at-requires : tie.Need-le64-at-requires
 le64-at-requires c κs = search needs
 
 returns : tie.Need-returns
-returns c =     let x = c .before .before in
+returns c = let x = c .before .before in
     let a = x .before .before .before .before .args in
     let s = now (a .img) in
     let t = sym (ap fileType (x .before .before .kind-at .ensures)) ∙ sym (x .before .is-file .ensures) ∙ x .if1 .taken in
     c .le64-at .ensures ∙ ap (le 8 s) (c .before .after .ensures) ∙ sym (file-field s (a .at .0) (a .o) t)
 
 returns-2 : tie.Need-returns-2
-returns-2 c =     let a = c .before .before .before .before .args in
+returns-2 c = let a = c .before .before .before .before .args in
     let t = sym (ap fileType (c .before .before .kind-at .ensures)) ∙ sym (c .before .is-file .ensures) ∙ c .if1 .left in
     sym (directory-field (now (a .img)) (a .at .0) (a .o) t)
 

@@ -39,7 +39,7 @@ part-result-end : tie.Need-part-result-end
 part-result-end c = search needs
 
 returns : tie.Need-returns
-returns c =     let e = c .before .before .before .before in
+returns c = let e = c .before .before .before .before in
     let n = e .before .before in
     let a = n .before .before .before .args in
     field-read (now (a .img)) (a .at .0) _ _ _ _ (e .slots-at .ensures .0) (n .name-at .ensures .0 ∙ ap nameAt (n .before .kind-at .ensures))

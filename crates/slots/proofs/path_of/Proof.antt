@@ -21,7 +21,7 @@ slice-aggregate-result : tie.Need-slice-aggregate-result
 slice-aggregate-result c = sym (length-take-le _ _ (c .before .zero-at .ensures .1))
 
 returns : tie.Need-returns
-returns c =     let x = c .before .before .before .before in
+returns c = let x = c .before .before .before .before in
     let f = now (c .before .before .name-field .result) in
     ap (λ (n : ℕ). take n f) (c .before .zero-at .ensures .0) ∙ sym (upToZero-take f)
     ∙ ap upToZero (c .before .before .name-field .ensures)

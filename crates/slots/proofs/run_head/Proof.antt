@@ -35,14 +35,16 @@ file-field-requires-3 : tie.Need-file-field-requires-3
 file-field-requires-3 c κs = search needs
 
 returns : tie.Need-returns
-returns c =     let l = c .before .before .before .before .before in
+returns c = let l = c .before .before .before .before .before in
     let x = l .before .before .before .before .before in
-    let s = now (x .args .img) in
-    (run-view s (x .args .at .0) (x .args .slot .0) _ refl refl (x .pre .1) (l .before .before .before .kind-at .ensures) (l .before .before .slots-at .ensures .0)
-    (l .le64-at .ensures ∙ ap (le 8 s) (l .before .after .ensures))
-    (c .before .before .before .at .ensures ∙ c .before .before .before .before .file-field .ensures)
-    (c .before .at2 .ensures ∙ c .before .before .file-field2 .ensures)
-    (c .file-field3 .ensures), (refl, l .before .before .slots-at .ensures .2))
+    let s = now (x .args .img) in (
+      run-view s (x .args .at .0) (x .args .slot .0) _ refl refl (x .pre .1) (l .before .before .before .kind-at .ensures) (l .before .before .slots-at .ensures .0)
+          (l .le64-at .ensures ∙ ap (le 8 s) (l .before .after .ensures))
+          (c .before .before .before .at .ensures ∙ c .before .before .before .before .file-field .ensures)
+          (c .before .at2 .ensures ∙ c .before .before .file-field2 .ensures)
+          (c .file-field3 .ensures),
+      (refl, l .before .before .slots-at .ensures .2),
+    )
 
 pub run-head-spec : {M : Type 1} → statement M
 run-head-spec =

@@ -18,7 +18,7 @@ add-result : tie.Need-add-result
 add-result c = search needs
 
 returns : tie.Need-returns
-returns c =     let a = c .before .before .before .args in
+returns c = let a = c .before .before .before .args in
     let s = now (a .img) in
     (slots-read s (a .at .0) _ (c .le-at .ensures .0 ∙ ap (le 1 s) (c .before .after .ensures)), omega arith, omega arith)
 

@@ -1,10 +1,10 @@
-use Prim.Native.Nat.{_+_, _-_, _/_}
-use mathlib.Core.Path.{_≡_, refl}
+use mathlib.Core.Path.{_≡_, refl, sym, ap, _∙_}
 use native.Mathlib.Omega.{arith}
-use lib.ListN.{length}
 use denote.Ref.{now}
-use Rattle.rules.specs.Index.{slotAt}
 use Rattle.geometry.specs.View.{geometryView}
+use Prim.Native.Nat.{_+_, _-_, _/_}
+use lib.ListN.{length}
+use Rattle.rules.specs.Index.{slotAt}
 use Rattle.super_block.specs.Ends.{first-items, first-inside}
 use borrow.Author.Needs.{needs}
 use Rattle.super_block.proofs.first_slot.Statement.{statement}
@@ -12,6 +12,9 @@ use Rattle.super_block.proofs.first_slot.Tie as tie
 
 index-start-requires : tie.Need-index-start-requires
 index-start-requires c κs = search needs
+
+at-requires : tie.Need-at-requires
+at-requires c κs = search needs
 
 offset-requires : tie.Need-offset-requires
 offset-requires c κs = search needs
@@ -24,13 +27,15 @@ sub-t8 c = search needs
 
 returns : tie.Need-returns
 unfolding slotAt
-returns c = let x = c .before .before .before .before in
+returns c = let x = c .before .before .before .before .before in
     let s = now (x .args .img) in
     let g = geometryView (x .args .g) in
     let at : c .before .offset .result .0 ≡ length s - g .indexBytes + 64 = omega arith in
     let left : c .slots-in .result - 2 ≡ g .indexBytes / 64 - 2 = omega arith in
-    (first-items s g _ at refl left, first-inside s g _ (x .pre .good) (x .pre .short) at refl left, omega (arith, at))
+    let one = c .before .before .at .ensures in
+    (first-items s g _ at one left, first-inside s g _ (x .pre .good) (x .pre .short) at one left, omega (arith, at, one))
 
 pub first-slot-spec : {M : Type 1} → statement M
 first-slot-spec =
-    tie.close (tie.spec index-start-requires offset-requires slots-in-requires sub-t8 returns)
+    tie.close
+    (tie.spec index-start-requires at-requires offset-requires slots-in-requires sub-t8 returns)

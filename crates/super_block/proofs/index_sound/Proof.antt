@@ -1,20 +1,21 @@
-use mathlib.Core.Path.{sym, _∙_}
+use mathlib.Core.Path.{_≡_, refl, sym, ap, _∙_}
+use native.Mathlib.Omega.{arith}
 use denote.Ref.{now}
+use Rattle.geometry.specs.View.{geometryView}
 use borrow.Author.Tests.{not-true, not-false}
 use Rattle.rules.specs.Index.{indexSound}
 use Rattle.rules.specs.Lists.Laws.{and-left}
-use Rattle.geometry.specs.View.{geometryView}
 use Rattle.super_block.specs.Ends.{sound-by}
 use borrow.Author.Needs.{needs}
 use Rattle.super_block.proofs.index_sound.Statement.{statement}
 use Rattle.super_block.proofs.index_sound.Tie as tie
 
-ends-good-requires : tie.Need-ends-good-requires
-ends-good-requires c κs = search needs
+are-good-requires : tie.Need-are-good-requires
+are-good-requires c κs = search needs
 
 returns : tie.Need-returns
 unfolding indexSound
-returns c = sym (and-left _ _ (sym (c .before .ends-good .ensures) ∙ not-true _ (c .if1 .taken)))
+returns c = sym (and-left _ _ (sym (c .before .are-good .ensures) ∙ not-true _ (c .if1 .taken)))
 
 first-slot-requires : tie.Need-first-slot-requires
 first-slot-requires c κs = search needs
@@ -24,10 +25,10 @@ walk-sound-requires c κs = search needs
 
 returns-2 : tie.Need-returns-2
 returns-2 c = let x = c .before .before .before .before .before in
-    let e = sym (c .before .before .before .ends-good .ensures) ∙ not-false _ (c .before .before .if1 .left) in
+    let e = sym (c .before .before .before .are-good .ensures) ∙ not-false _ (c .before .before .if1 .left) in
     c .walk-sound .ensures ∙ sym (sound-by (now (x .args .img)) (geometryView (x .args .g)) (c .before .first-slot .result) (c .before .first-slot .ensures .0) ∙ rw e)
 
 pub index-sound-spec : {M : Type 1} → statement M
 index-sound-spec =
     tie.close
-    (tie.spec ends-good-requires returns first-slot-requires walk-sound-requires returns-2)
+    (tie.spec are-good-requires returns first-slot-requires walk-sound-requires returns-2)

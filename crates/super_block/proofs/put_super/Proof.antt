@@ -1,11 +1,12 @@
-use Prim.Native.Nat.{ℕ}
-use mathlib.Core.List.{List}
-use mathlib.Core.Path.{ap, _∙_}
+use mathlib.Core.Path.{_≡_, refl, sym, ap, _∙_}
+use native.Mathlib.Omega.{arith}
 use denote.Ref.{now}
-use Rattle.rules.specs.SuperBlock.{magicAt, summedBytes}
-use Rattle.rules.specs.Fields.{splice}
-use Rattle.rules.specs.Lists.{part}
 use Rattle.geometry.specs.View.{geometryView}
+use mathlib.Core.List.{List}
+use Prim.Native.Nat.{ℕ}
+use Rattle.rules.specs.Lists.{part}
+use Rattle.rules.specs.Fields.{splice}
+use Rattle.rules.specs.SuperBlock.{magicAt, summedBytes}
 use Rattle.super_block.specs.Written.{super-put}
 use borrow.Author.Needs.{needs}
 use Rattle.super_block.proofs.put_super.Statement.{statement}
@@ -29,6 +30,9 @@ part-checksum-end c = search needs
 checksum-requires : tie.Need-checksum-requires
 checksum-requires c κs = search needs
 
+at-requires : tie.Need-at-requires
+at-requires c κs = search needs
+
 wide-requires : tie.Need-wide-requires
 wide-requires c κs = search needs
 
@@ -40,11 +44,14 @@ same-length c = search needs
 
 returns : tie.Need-returns
 unfolding part
-returns c = let x = c .before .before .before .before .before .before .before .before .before .before .before .before .before .before .before .before .before in
+returns c = let k = c .before .before .before .before .before .before in
+    let m = k .before .before .before .before .before in
+    let z = m .before .before .before .before in
+    let x = z .before .before .before in
     let g = geometryView (x .args .g) in
     let w = c .before .before .before .wide .ensures in
-    let t = c .before .before .before .before .before .before .before .before .before .before .put-summed .ensures ∙ ap (λ (u : List ℕ). splice u magicAt (summedBytes g)) (c .before .before .before .before .before .before .before .before .before .before .before .before .before .before .put-sizes .ensures) in
-    super-put (now (x .args .img)) (x .pre) g _ t _ _ (w .0 ∙ c .before .before .before .before .before .checksum .ensures) (w .1) (c .before .before .put-le .ensures)
+    let t = m .put-summed .ensures ∙ ap (λ (u : List ℕ). splice u magicAt (summedBytes g)) (z .put-sizes .ensures) in
+    super-put (now (x .args .img)) (x .pre) g _ t _ _ _ (c .before .before .before .before .at .ensures) (w .0 ∙ k .checksum .ensures) (w .1) (c .before .before .put-le .ensures)
 
 pub put-super-spec : {M : Type 1} → statement M
 put-super-spec =
@@ -56,6 +63,7 @@ put-super-spec =
     part-checksum-start
     part-checksum-end
     checksum-requires
+    at-requires
     wide-requires
     put-le-requires
     same-length
