@@ -9,7 +9,7 @@ use Rattle.erasing.proofs.write_reclaimed.Tie as tie
 
 -- the places before, one behind the other
 abbrev first : tie.After-first-slot → tie.Start
-first c = c .before .before
+first c = c .before .before .before
 
 abbrev least : tie.After-put-sizes → tie.After-restamp
 least c = c .before .before
