@@ -3,9 +3,9 @@ use Prim.Native.Nat.{ℕ}
 use mathlib.Core.Path.{_≡_}
 use mathlib.Core.List.{List}
 use lib.IntN.{ℤ}
-use Rattle.rules.specs.Writing.{New, createOf}
+use Rattle.rules.specs.Writing.{New, created, createOf}
 use Rattle.rules.specs.Writing.Laws.{refusedWrite, wrote}
-use Rattle.placing.specs.Site.{siteImage, SiteIn}
+use Rattle.placing.specs.Site.{siteView, NewIn}
 use Rattle.placing.specs.declared.Site.{Site}
 use Rattle.planning.specs.Planned.{Planned}
 use Rattle.planning.specs.declared.Plan.{Plan}
@@ -16,6 +16,6 @@ module _ (s : List ℕ) (new : New) (path : List ℕ) (stamp : ℤ) (r : Plan) (
   unfolding Planned
   plan-refused n e = rw e at told
 
-  pub plan-at : (p : Site) → r ≡ At p → (createOf s new path stamp ≡ wrote (siteImage s new path stamp p)) × SiteIn s new path p
+  pub plan-at : (p : Site) → r ≡ At p → (createOf s new path stamp ≡ wrote (created s (siteView p) new path stamp)) × NewIn s new path (siteView p)
   unfolding Planned
   plan-at p e = rw e at told

@@ -1,33 +1,32 @@
 -- Deleted runs cleared one after the other, while the walk goes on behind them.
-use Prim.Native.Nat.{ℕ, zero, suc, _+_, _-_, _*_, _≤_, _<_}
+use Prim.Native.Nat.{ℕ, _+_, _*_, _≤_}
 use mathlib.Core.Path.{_≡_, refl, sym, ap, _∙_}
 use mathlib.Core.Bool.{true}
 use mathlib.Core.List.{List, [], _∷_}
 use native.Mathlib.Omega.{arith}
 use lib.ListN.{length, drop}
 use lib.IntN.{ℤ}
-use lib.Dec.{eqb}
-use borrow.Author.Tests.{eq-eqb, ne-eqb}
-use Rattle.rules.specs.Lists.{pick, padded}
-use Rattle.rules.specs.Lists.Laws.{length-padded}
+use Rattle.rules.specs.Lists.{pick}
 use Rattle.rules.specs.Fields.{splice}
-use Rattle.rules.specs.Fields.Laws.{length-splice, splice-nil}
-use Rattle.rules.specs.SuperBlock.{Geometry, writable, trimData, withData, restamp, putSizes, sizesBytes, superBlockAt}
-use Rattle.rules.specs.SuperBlock.Laws.{GoodGeometry, length-sizes}
-use Rattle.rules.specs.Index.{Entry, typeUnused, deletedType, slotAt, unusedBytes, itemsOf, entriesOf}
+use Rattle.rules.specs.Fields.Laws.{length-splice}
+use Rattle.rules.specs.SuperBlock.{Geometry, writable, trimData, withData, restamp, putSizes}
+use Rattle.rules.specs.SuperBlock.Laws.{GoodGeometry}
+use Rattle.rules.specs.Index.{Entry, deletedType, slotAt, unusedBytes, itemsOf, entriesOf}
+use Rattle.rules.specs.Index.Laws.{length-unusedBytes}
 use Rattle.rules.specs.Index.Walk.{walkAll, pick-both}
 use Rattle.rules.specs.Refusals.{accepted, judge}
 use Rattle.rules.specs.Writing.{isDeleted, undeleted, cleared, leastEnd, reclaimOf}
 use Rattle.rules.specs.Writing.Laws.{wrote, reclaim-done}
-use Rattle.index.specs.declared.Cursor.{Cursor}
-use Rattle.index.specs.declared.Head.{Head}
-use Rattle.index.specs.View.{itemsFrom, headView}
-use Rattle.index.specs.Steps.{Walks, HeadIn, Step, entriesFrom}
 use Rattle.laws.proofs.Lists.Spans.{drop-splice-after}
-use Rattle.laws.proofs.Index.Unused.{length-unusedBytes}
-use Rattle.judging.specs.View.{volumeOf}
+use Rattle.laws.proofs.Index.Slots.{slot-at}
 use Rattle.laws.proofs.Images.Areas.{index-start}
-use Rattle.laws.proofs.Images.Sizes.{restamp-index, sizes-long}
+use Rattle.laws.proofs.Images.Sizes.{restamp-index, sizes-long, sizes-drop}
+use Rattle.slots.specs.declared.Head.{Head}
+use Rattle.slots.specs.View.{headView, HeadIn}
+use Rattle.index.specs.declared.Cursor.{Cursor}
+use Rattle.index.specs.View.{itemsFrom}
+use Rattle.index.specs.Steps.{Walks, Step, entriesFrom}
+use Rattle.judging.specs.View.{volumeOf}
 
 -- ---- an entry that stands at the front
 -- the image once its run is cleared, if it is deleted
@@ -87,12 +86,10 @@ module _ (s : List ℕ) (c : Cursor) (h : Head) (d : Cursor) (step : Step s c h 
   step-walks = walks-kept s t d long same (step .walks)
 
   head-place : (g : Geometry) → c .at .0 ≡ slotAt s g (c .slot .0) → h .at .0 ≡ slotAt s g (h .slot .0)
-  unfolding slotAt
-  head-place g p = omega (arith, step .place)
+  head-place g p = omega (arith, slot-at s g (c .slot .0), slot-at s g (h .slot .0), step .place)
 
   next-place : (g : Geometry) → c .at .0 ≡ slotAt s g (c .slot .0) → d .at .0 ≡ slotAt t g (d .slot .0)
-  unfolding slotAt
-  next-place g p = omega (arith, step .place, step .after, step .number, long)
+  next-place g p = omega (arith, slot-at s g (c .slot .0), slot-at t g (d .slot .0), step .place, step .after, step .number, long)
 
   front : (g : Geometry) → h .at .0 ≡ slotAt s g (h .slot .0) → (es : List Entry) → cleared isDeleted s g (headView s h ∷ es) ≡ cleared isDeleted t g es
   unfolding cleared isDeleted headView headCleared
@@ -121,15 +118,13 @@ reclaim-written s g o c z = reclaim-done s (volumeOf s g) o c z
 -- the sizes lie before the index area, whose size is kept
 module _ (s : List ℕ) (g : Geometry) (good : GoodGeometry (length s) g) (k : Geometry) (c : Cursor) (at : c .at .0 ≡ slotAt s g (c .slot .0)) where
   sizes-behind : drop (c .at .0) (putSizes s k) ≡ drop (c .at .0) s
-  unfolding putSizes slotAt
-  sizes-behind = drop-splice-after s superBlockAt (sizesBytes k) (omega (arith, index-start s g good, good .index-low)) (c .at .0) (omega (arith, length-sizes k, index-start s g good))
+  sizes-behind = sizes-drop s g k good (c .at .0) (omega (arith, slot-at s g (c .slot .0), index-start s g good))
 
   pub sizes-walks : Walks s c → (t : List ℕ) → t ≡ putSizes s k → Walks t c
   sizes-walks w t e = rw e (walks-kept s (putSizes s k) c (sizes-long s g k good) sizes-behind w)
 
   sizes-place : k .indexBytes ≡ g .indexBytes → c .at .0 ≡ slotAt (putSizes s k) k (c .slot .0)
-  unfolding slotAt
-  sizes-place e = omega (arith, sizes-long s g k good, e)
+  sizes-place e = omega (arith, slot-at s g (c .slot .0), slot-at (putSizes s k) k (c .slot .0), sizes-long s g k good, e)
 
   sizes-entries : itemsFrom s c ≡ itemsOf s g → entriesFrom (putSizes s k) c ≡ entriesOf (itemsOf s g)
   sizes-entries i = ap entriesOf (items-kept s (putSizes s k) c (sizes-long s g k good) sizes-behind ∙ i)

@@ -6,20 +6,18 @@ use index::Next;
 use judging::Judged;
 use paths::Search;
 use slots::Head;
-use units::Block;
 use units::Offset;
 ghost use mathlib.Core.Path.{_≡_};
-ghost use Prim.Native.Nat.{_+_, _*_, _≤_};
-ghost use lib.ListN.{length};
-ghost use Rattle.rules.specs.Fields.{splice, signedOf};
+ghost use Rattle.rules.specs.Fields.{signedOf};
 ghost use Rattle.rules.specs.SuperBlock.{Geometry as Sizes};
-ghost use Rattle.rules.specs.Index.{deletedType, slotAt, unusedBytes, retyped};
-ghost use Rattle.rules.specs.Writing.{deletedKind, isDeleted, cleared};
+ghost use Rattle.rules.specs.Index.{slotAt};
+ghost use Rattle.rules.specs.Writing.{isDeleted, cleared};
 ghost use Rattle.contracts.specs.Contracts.{Deletes, Reclaims};
 ghost use Rattle.geometry.specs.View.{geometryView};
-ghost use Rattle.index.specs.Steps.{Walks, HeadIn, entriesFrom};
+ghost use Rattle.index.specs.Steps.{Walks, entriesFrom};
+ghost use Rattle.slots.specs.View.{HeadIn};
 ghost use Rattle.judging.specs.View.{Opened};
-ghost use Rattle.erasing.specs.Delete.{Planned};
+ghost use Rattle.erasing.specs.Delete.{Doomed};
 ghost use Rattle.erasing.specs.Reclaim.{headCleared, reclaimed};
 
 // ---- delete
@@ -32,7 +30,7 @@ enum Doom {
 
 fn plan_entry(img: &[u8], g: Geometry, path: &[u8]) -> Doom
     requires { ⌜ Opened (now img) g ⌝ }
-    ensures { λ r. ⌜ Planned (now (img .entry)) (now (path .entry)) r ⌝ }
+    ensures { λ r. ⌜ Doomed (now (img .entry)) (now (path .entry)) r ⌝ }
 {
     if !g.is_writable() {
         return Doom::Refused(9);
@@ -54,7 +52,7 @@ fn plan_entry(img: &[u8], g: Geometry, path: &[u8]) -> Doom
 }
 
 fn plan_delete(img: &[u8], path: &[u8]) -> Doom
-    ensures { λ r. ⌜ Planned (now (img .entry)) (now (path .entry)) r ⌝ }
+    ensures { λ r. ⌜ Doomed (now (img .entry)) (now (path .entry)) r ⌝ }
 {
     match judging::judge(img) {
         Judged::Refused(n) => Doom::Refused(n),
@@ -110,8 +108,7 @@ fn write_reclaimed(img: &mut [u8], g: Geometry, stamp: u64)
     ensures { λ _. ⌜ now (img .exit) ≡ reclaimed (now (img .entry)) (geometryView g) (signedOf stamp) ⌝ }
 {
     let from = super_block::first_slot(img, g);
-    let end = Block(free_runs::last_end(img, from));
-    let least = g.trim_data(end).restamp(g, stamp);
+    let least = g.trim_data(free_runs::last_end(img, from)).restamp(g, stamp);
     super_block::put_sizes(img, least);
     clear_deleted(img, from);
 }

@@ -156,7 +156,7 @@ impl Geometry {
     }
 
     // The index area's size, and the data area below it.
-    fn areas_fit(self, n: u64) -> bool
+    pub fn areas_fit(self, n: u64) -> bool
         requires { ⌜ self .field ≤ 5 ⌝ }
         ensures { λ r. ⌜ r ≡ areasFit n (geometryView self) ⌝ }
     {

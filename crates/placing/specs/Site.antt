@@ -1,21 +1,38 @@
--- A site in the rules' words: the image that results, and that all of it lies in the image.
+-- A site in the rules' words, and that all of it lies in the image.
 use Prim.Native.Nat.{ℕ, _+_, _-_, _*_, _≤_}
 use mathlib.Core.Path.{_≡_}
 use mathlib.Core.Bool.{Bool, true, false}
-use mathlib.Core.List.{List}
+use mathlib.Core.List.{List, []}
 use lib.ListN.{length}
-use lib.IntN.{ℤ}
 use Rattle.rules.specs.SuperBlock.{blockLength}
-use Rattle.rules.specs.Index.{continuing}
-use Rattle.rules.specs.Writing.{Site as Placing, New, newFile, newDirectory, kindOf, bytesOf, created}
+use Rattle.rules.specs.Index.{continuing, slotBytes, typeFile, typeDirectory}
+use Rattle.rules.specs.Writing.{Site as Placing, New, newFile, newDirectory, kindOf, bytesOf}
 use Rattle.geometry.specs.View.{geometryView}
 use Rattle.placing.specs.declared.Site.{Site}
 
--- what is created, as a program is told it: a file with these bytes, or a directory
+-- ---- what is created, as a program is told it: a file with these bytes, or a directory
 unfoldable pub newOf : Bool → List ℕ → New
 newOf true bytes = newFile bytes
 newOf false bytes = newDirectory
 
+module _ (file : Bool) (bytes : List ℕ) where
+  pub kind-file : file ≡ true → kindOf (newOf file bytes) ≡ typeFile
+  unfolding newOf kindOf
+  kind-file e = rw e
+
+  pub kind-directory : file ≡ false → kindOf (newOf file bytes) ≡ typeDirectory
+  unfolding newOf kindOf
+  kind-directory e = rw e
+
+  pub bytes-file : file ≡ true → bytesOf (newOf file bytes) ≡ bytes
+  unfolding newOf bytesOf
+  bytes-file e = rw e
+
+  pub bytes-directory : file ≡ false → bytesOf (newOf file bytes) ≡ []
+  unfolding newOf bytesOf
+  bytes-directory e = rw e
+
+-- ---- where it goes
 abbrev pub siteView : Site → Placing
 siteView p = record {
   old = geometryView (p .old);
@@ -26,18 +43,23 @@ siteView p = record {
   end = p .end .0;
 }
 
-abbrev pub siteImage : List ℕ → New → List ℕ → ℤ → Site → List ℕ
-siteImage s new path stamp p = created s (siteView p) new path stamp
+-- the region lies in an image of n bytes and holds so many
+pub record BlocksIn (n : ℕ) (p : Placing) (bytes : ℕ) : Type 0 where
+  pub field : p .new .blockField ≤ 5
+  pub ordered : p .start ≤ p .end
+  pub region : p .end * blockLength (p .new) ≤ n
+  pub holds : bytes ≤ (p .end - p .start) * blockLength (p .new)
 
-pub record SiteIn (s : List ℕ) (new : New) (path : List ℕ) (p : Site) : Type 0 where
+-- so does the run in the index, by the kind and the path
+pub record SiteIn (s : List ℕ) (kind : ℕ) (path bytes : List ℕ) (p : Placing) : Type 0 where
   pub long : 512 ≤ length s
   pub short : length s ≤ 16_777_216
-  pub field : p .new .field ≤ 5
-  pub indexLow : 128 ≤ p .new .index
-  pub indexFits : p .new .index ≤ length s
-  pub slots : p .slots ≡ 1 + continuing (kindOf new) (length path)
+  pub indexLow : 128 ≤ p .new .indexBytes
+  pub indexFits : p .new .indexBytes ≤ length s
+  pub slots : p .slots ≡ 1 + continuing kind (length path)
   pub pathShort : length path ≤ 285
-  pub run : length s - p .new .index + 64 * (p .slot .0 + p .slots) ≤ length s
-  pub ordered : p .start .0 ≤ p .end .0
-  pub region : p .end .0 * blockLength (geometryView (p .new)) ≤ length s
-  pub holds : length (bytesOf new) ≤ (p .end .0 - p .start .0) * blockLength (geometryView (p .new))
+  pub run : slotBytes * (p .slot + p .slots) ≤ p .new .indexBytes
+  pub blocks : BlocksIn (length s) p (length bytes)
+
+abbrev pub NewIn : List ℕ → New → List ℕ → Placing → Type 0
+NewIn s new path p = SiteIn s (kindOf new) path (bytesOf new) p

@@ -5,16 +5,12 @@ use slots::Head;
 use units::Block;
 use units::Slot;
 ghost use mathlib.Core.Path.{_≡_};
-ghost use mathlib.Core.List.{[], _∷_, _++_};
-ghost use Prim.Native.Nat.{_+_, _-_, _*_, _≤_};
+ghost use Prim.Native.Nat.{_*_, _≤_};
 ghost use lib.ListN.{length};
-ghost use Rattle.rules.specs.Lists.{pick};
-ghost use Rattle.rules.specs.Fields.{splice, leBytes, signedOf, stampBytes};
-ghost use Rattle.rules.specs.Index.{fileType, nameAt, markerBytes, runBytes};
-ghost use Rattle.rules.specs.Writing.{putMarker};
-ghost use Rattle.geometry.specs.View.{geometryView};
-ghost use Rattle.placing.specs.Site.{newOf, siteImage, SiteIn};
-ghost use Rattle.placing.specs.Placed.{BlocksIn, Room, blocksImage, roomImage};
+ghost use Rattle.rules.specs.Fields.{signedOf};
+ghost use Rattle.rules.specs.Writing.{created};
+ghost use Rattle.placing.specs.Site.{newOf, siteView, BlocksIn, SiteIn, NewIn};
+ghost use Rattle.placing.specs.Placed.{blocksImage, siteHead, siteImage};
 
 // Where a create puts what it makes: the geometry before and after, the run's first slot and its slots (in the index after any growth),
 // and the file's region.
@@ -31,8 +27,8 @@ pub struct Site {
 
 // The bytes, and zeros to the end of the last block: the region is lent on as a part of the image.
 fn put_blocks(img: &mut [u8], p: Site, bytes: &[u8])
-    requires { ⌜ (length (now img) ≤ 16_777_216) × BlocksIn (length (now img)) p (length (now bytes)) ⌝ }
-    ensures { λ _. ⌜ now (img .exit) ≡ blocksImage (now (img .entry)) p (now (bytes .entry)) ⌝ }
+    requires { ⌜ (length (now img) ≤ 16_777_216) × BlocksIn (length (now img)) (siteView p) (length (now bytes)) ⌝ }
+    ensures { λ _. ⌜ now (img .exit) ≡ blocksImage (now (img .entry)) (siteView p) (now (bytes .entry)) ⌝ }
 {
     let len = p.new.block_length();
     let start = p.start.offset(len);
@@ -42,16 +38,16 @@ fn put_blocks(img: &mut [u8], p: Site, bytes: &[u8])
 
 // ---- all of it
 
-// What is new, by its kind and its bytes. The super-block, the index and the region are written in this order.
-fn put_new(img: &mut [u8], p: Site, kind: u8, path: &[u8], bytes: &[u8], stamp: u64)
-    requires { ⌜ Room (now img) kind (now path) (now bytes) p ⌝ }
-    ensures { λ _. ⌜ now (img .exit) ≡ roomImage (now (img .entry)) kind (now (path .entry)) (now (bytes .entry)) (signedOf stamp) p ⌝ }
+// The head of the run, in an image of `len` bytes.
+fn head_of(len: u64, p: Site, kind: u8, bytes: u64, stamp: u64) -> Head
+    requires { ⌜ (len ≤ 16_777_216) × (p .new .index ≤ len) × (64 * p .slot .0 ≤ p .new .index) ⌝ }
+    ensures { λ r. ⌜ r ≡ siteHead len p kind bytes stamp ⌝ }
 {
-    let index = units::index_start(img.len() as u64, p.new.index);
+    let index = units::index_start(len, p.new.index);
     let slot = p.slot;
     let start = p.start;
     let end = p.end;
-    let h = Head {
+    Head {
         at: slot.offset(index),
         kind,
         slot,
@@ -59,8 +55,16 @@ fn put_new(img: &mut [u8], p: Site, kind: u8, path: &[u8], bytes: &[u8], stamp: 
         stamp,
         start,
         end,
-        length: bytes.len() as u64,
-    };
+        length: bytes,
+    }
+}
+
+// What is new, by its kind and its bytes. The super-block, the index and the region are written in this order.
+fn put_new(img: &mut [u8], p: Site, kind: u8, path: &[u8], bytes: &[u8], stamp: u64)
+    requires { ⌜ SiteIn (now img) kind (now path) (now bytes) (siteView p) ⌝ }
+    ensures { λ _. ⌜ now (img .exit) ≡ siteImage (now (img .entry)) kind (now (path .entry)) (now (bytes .entry)) (signedOf stamp) (siteView p) ⌝ }
+{
+    let h = head_of(img.len() as u64, p, kind, bytes.len() as u64, stamp);
     super_block::put_sizes(img, p.new);
     ends::move_marker(img, p.old, p.new);
     runs::put_run(img, h, path);
@@ -69,8 +73,8 @@ fn put_new(img: &mut [u8], p: Site, kind: u8, path: &[u8], bytes: &[u8], stamp: 
 
 // A file with these bytes, or a directory, of which no bytes are written.
 pub fn place(img: &mut [u8], p: Site, file: bool, path: &[u8], bytes: &[u8], stamp: u64)
-    requires { ⌜ SiteIn (now img) (newOf file (now bytes)) (now path) p ⌝ }
-    ensures { λ _. ⌜ now (img .exit) ≡ siteImage (now (img .entry)) (newOf file (now (bytes .entry))) (now (path .entry)) (signedOf stamp) p ⌝ }
+    requires { ⌜ NewIn (now img) (newOf file (now bytes)) (now path) (siteView p) ⌝ }
+    ensures { λ _. ⌜ now (img .exit) ≡ created (now (img .entry)) (siteView p) (newOf file (now (bytes .entry))) (now (path .entry)) (signedOf stamp) ⌝ }
 {
     if file {
         put_new(img, p, slots::FILE, path, bytes, stamp);

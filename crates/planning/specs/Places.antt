@@ -1,22 +1,26 @@
 -- Places for a run and for a file's blocks, by the tests that the code makes.
-use Prim.Native.Nat.{ℕ, zero, suc, _+_, _-_, _*_, _/_, _≤_, _<_}
+use Prim.Native.Nat.{ℕ, zero, suc, _+_, _-_, _*_, _/_, _%_, _≤_, _<_}
 use mathlib.Core.Path.{_≡_, refl, sym, ap, ap₂, _∙_}
+use mathlib.Core.Bool.{Bool, true, false, _&&_}
 use mathlib.Core.List.{List}
 use mathlib.Core.Option.{Option, none, some}
 use native.Mathlib.Omega.{arith}
 use native.Mathlib.Nat.{div-eq-of-lt}
-use lib.Dec.{leb}
-use borrow.Author.Tests.{le-leb, lt-leb}
-use Rattle.rules.specs.Lists.Laws.{pick-true, pick-false, and-both, and-left, and-right}
-use Rattle.rules.specs.SuperBlock.{Geometry, blockLength, ceilingBlock, dataEnd, growIndex, withIndex}
+use native.Mathlib.Decide.{decLt}
+use lib.Dec.{eqb, leb}
+use lib.IntN.{ℤ}
+use borrow.Author.Tests.{le-leb, lt-leb, eq-eqb}
+use Rattle.rules.specs.Lists.Laws.{pick-true, pick-false, and-right}
+use Rattle.rules.specs.SuperBlock.{Geometry, mostIndexBytes, indexGood, blockLength, ceilingBlock, dataEnd, growIndex, withIndex, extendData, restamp}
+use Rattle.rules.specs.SuperBlock.Laws.{GoodGeometry, reserved-pos}
 use Rattle.rules.specs.Index.{Entry, itemsOf}
 use Rattle.rules.specs.Regions.{lowestFree}
 use Rattle.rules.specs.Refusals.{Volume}
-use Rattle.rules.specs.Writing.{Place, mayGrow, grownPlace, placeFrom, placeRun, placeFile, lowestUnused}
+use Rattle.rules.specs.Writing.{Site as Placing, Place, mayGrow, grownPlace, placeFrom, placeRun, placeFile, lowestUnused}
 use Rattle.laws.proofs.Entries.Creating.{block-pos}
-use Rattle.geometry.specs.View.{geometryView}
+use Rattle.laws.proofs.Images.Placing.{newGeometry}
+use Rattle.geometry.specs.View.{geometryView, areasFit}
 use Rattle.geometry.specs.declared.Geometry.{Geometry as Held}
-use Rattle.regions.specs.Bounds.{Bounded}
 use Rattle.index.specs.declared.Cursor.{Cursor}
 use Rattle.index.specs.View.{Inside, itemsFrom}
 use Rattle.free_runs.specs.declared.Free.{Free}
@@ -32,51 +36,66 @@ placeView (At k g) = some (record { slot = k .0; geometry = geometryView g })
 abbrev pub Begins : List ℕ → Held → Cursor → Type 0
 Begins s g c = (itemsFrom s c ≡ itemsOf s (geometryView g)) × Inside s c
 
--- ---- growth
--- what a geometry gives whose index may be grown
-pub record Growable (g : Held) : Type 0 where
-  pub bounded : Bounded g
-  pub reserved : 1 ≤ g .reserved
-  pub index : g .index ≤ 262_144
+-- a site by its parts: g before the call, grown after any growth of the index
+abbrev pub siteFrom : Geometry → Geometry → ℕ → ℕ → ℕ → ℕ → ℤ → Placing
+siteFrom g grown slot slots start blocks stamp = record {
+  old = g;
+  new = newGeometry g grown (start + blocks) stamp;
+  slot = slot;
+  slots = slots;
+  start = start;
+  end = start + blocks;
+}
 
--- a geometry held that is another one grown
-module _ (g h : Held) (k : ℕ) (view : geometryView h ≡ growIndex (geometryView g) k) where
-  pub grown-index : h .index ≡ g .index + k
-  unfolding growIndex withIndex
-  grown-index = ap (λ (x : Geometry). x .indexBytes) view
+-- as a program makes it: `held` is the geometry with the data area up to `end`
+pub site-made : (g grown : Geometry) (slot slots start blocks : ℕ) (stamp : ℤ) (end : ℕ) (held new : Geometry)
+    → end ≡ start + blocks → held ≡ extendData grown end → new ≡ restamp g held stamp
+    → record { old = g; new = new; slot = slot; slots = slots; start = start; end = end } ≡ siteFrom g grown slot slots start blocks stamp
+site-made g grown slot slots start blocks stamp end held new e f h = rw (h, f, e)
 
-  pub grown-reserved : h .reserved ≡ g .reserved
-  unfolding growIndex withIndex
-  grown-reserved = ap (λ (x : Geometry). x .reserved) view
-
-  pub grown-data : h .«data» ≡ g .«data»
-  unfolding growIndex withIndex
-  grown-data = ap (λ (x : Geometry). x .dataBlocks) view
-
-  pub grown-field : h .field ≡ g .field
-  unfolding growIndex withIndex
-  grown-field = ap (λ (x : Geometry). x .blockField) view
+-- ---- growth: what is asked of an index that has grown, and of a good geometry, is the same
+both-pass : (a b c d e : Bool) → a ≡ true → c ≡ true → d ≡ true → (((a && b && c) && d) && e) ≡ (b && e)
+both-pass a true c d e x y z = rw (x, y, z)
+both-pass a false c d e x y z = rw x
 
 module _ (n : ℕ) (h : Geometry) where
-  pub grown-high : 262_144 < h .indexBytes → grownPlace n h ≡ none
-  unfolding grownPlace mayGrow
-  grown-high l = pick-false _ _ (and-left _ _ (lt-leb (h .indexBytes) 262_144 l))
-
-  pub grown-low : ceilingBlock n h < dataEnd h → grownPlace n h ≡ none
-  unfolding grownPlace mayGrow
-  grown-low l = pick-false _ _ (and-right (leb (h .indexBytes) 262_144) _ (lt-leb (dataEnd h) (ceilingBlock n h) l))
-
   -- an index that is longer than the image leaves no block below it
-  pub grown-past : n < h .indexBytes → 1 ≤ h .reserved → grownPlace n h ≡ none
+  none-below : n < h .indexBytes → 1 ≤ h .reserved → leb (dataEnd h) (ceilingBlock n h) ≡ false
   unfolding ceilingBlock dataEnd
-  grown-past l r =
+  none-below l r =
       let z : n - h .indexBytes ≡ 0 = omega arith in
       let c : ceilingBlock n h ≡ 0 = ap (λ (x : ℕ). x / blockLength h) z ∙ div-eq-of-lt (block-pos h) in
-      grown-low (omega (arith, c))
+      lt-leb (dataEnd h) (ceilingBlock n h) (omega (arith, c))
 
-  pub grown-at : h .indexBytes ≤ 262_144 → dataEnd h ≤ ceilingBlock n h → grownPlace n h ≡ some (record { slot = 1; geometry = h })
-  unfolding grownPlace mayGrow
-  grown-at i d = pick-true _ _ (and-both _ _ (le-leb (h .indexBytes) 262_144 i) (le-leb (dataEnd h) (ceilingBlock n h) d))
+  areas-grow : 128 ≤ h .indexBytes → h .indexBytes % 64 ≡ 0 → 1 ≤ h .reserved → areasFit n h ≡ mayGrow n h
+  unfolding areasFit mayGrow indexGood
+  areas-grow low slots reserved = by (decLt n (h .indexBytes))
+    where
+      by : Dec (n < h .indexBytes) → areasFit n h ≡ mayGrow n h
+      by (yes l) = let f = none-below l reserved in and-right (indexGood (h .indexBytes) && leb (h .indexBytes) n) _ f ∙ sym (and-right (leb (h .indexBytes) mostIndexBytes) _ f)
+      by (no l) =
+          both-pass (leb 128 (h .indexBytes)) (leb (h .indexBytes) mostIndexBytes) (eqb (h .indexBytes % 64) 0) (leb (h .indexBytes) n) (leb (dataEnd h) (ceilingBlock n h))
+          (le-leb 128 (h .indexBytes) low) (eq-eqb (h .indexBytes % 64) 0 slots) (le-leb (h .indexBytes) n (omega arith))
+
+module _ (n : ℕ) (g : Geometry) (good : GoodGeometry n g) (k : ℕ) (h : Geometry) (is : h ≡ growIndex g (64 * k)) where
+  pub grown-field : h .blockField ≤ 5
+  unfolding growIndex withIndex
+  grown-field = omega (arith, ap (λ (x : Geometry). x .blockField) is, good .field-high)
+
+  grown-fits : areasFit n h ≡ mayGrow n h
+  unfolding growIndex withIndex
+  grown-fits =
+      let i : h .indexBytes ≡ g .indexBytes + 64 * k = ap (λ (x : Geometry). x .indexBytes) is in
+      let r : h .reserved ≡ g .reserved = ap (λ (x : Geometry). x .reserved) is in
+      areas-grow n h (omega (arith, good .index-low)) (omega (arith, good .index-slots)) (omega (arith, reserved-pos n g good))
+
+  pub grown-not : areasFit n h ≡ false → none ≡ grownPlace n (growIndex g (64 * k))
+  unfolding grownPlace
+  grown-not e = rw (← is) (sym (pick-false _ _ (sym grown-fits ∙ e)))
+
+  pub grown-at : areasFit n h ≡ true → (slot : ℕ) → slot ≡ 1 → some (record { slot = slot; geometry = h }) ≡ grownPlace n (growIndex g (64 * k))
+  unfolding grownPlace
+  grown-at e slot first = rw (← is, first) (sym (pick-true _ _ (sym grown-fits ∙ e)))
 
 -- ---- by what unused slots there are
 module _ (n : ℕ) (v : Volume) (slots : ℕ) where

@@ -10,20 +10,19 @@ use units::Block;
 use units::Slot;
 ghost use mathlib.Core.Path.{_≡_};
 ghost use mathlib.Core.List.{List};
-ghost use Prim.Native.Nat.{ℕ, _*_, _≤_};
+ghost use Prim.Native.Nat.{ℕ, _+_, _*_, _^_, _≤_, _<_};
 ghost use lib.ListN.{length};
 ghost use Rattle.rules.specs.Fields.{signedOf};
-ghost use Rattle.rules.specs.SuperBlock.{blockLength, growIndex};
-ghost use Rattle.rules.specs.Regions.{blocksNeeded};
-ghost use Rattle.rules.specs.Writing.{kindOf, bytesOf, lowestUnused, grownPlace, placeRun, placeFile};
+ghost use Rattle.rules.specs.SuperBlock.{growIndex};
+ghost use Rattle.rules.specs.SuperBlock.Laws.{GoodGeometry};
+ghost use Rattle.rules.specs.Writing.{newSlots, newBlocks, grownPlace, placeRun, placeFile};
 ghost use Rattle.geometry.specs.View.{geometryView};
-ghost use Rattle.index.specs.View.{itemsFrom};
 ghost use Rattle.index.specs.Steps.{Walks, entriesFrom};
 ghost use Rattle.free_runs.specs.View.{freeView};
 ghost use Rattle.judging.specs.View.{Opened, volumeOf};
-ghost use Rattle.planning.specs.Places.{placeView, Begins, Growable};
-ghost use Rattle.planning.specs.Planned.{Planned, Clear};
-ghost use Rattle.placing.specs.Site.{newOf};
+ghost use Rattle.planning.specs.Places.{placeView, siteFrom, Begins};
+ghost use Rattle.planning.specs.Planned.{Planned, Admitted};
+ghost use Rattle.placing.specs.Site.{newOf, siteView};
 
 // ---- a place for the run
 
@@ -35,21 +34,14 @@ pub enum RunPlace {
 
 // Slot 1 of an index that is n slots larger, if it may grow so in an image of `len` bytes.
 fn grown_place(len: u64, g: Geometry, n: u64) -> RunPlace
-    requires { ⌜ Growable g × (n ≤ 5) ⌝ }
+    requires { ⌜ GoodGeometry len (geometryView g) × (n ≤ 5) ⌝ }
     ensures { λ r. ⌜ placeView r ≡ grownPlace len (growIndex (geometryView g) (64 * n)) ⌝ }
 {
-    let grown = g.grow_index(64 * n);
-    if 262_144 < grown.index {
+    let grown = g.grow_index(units::SLOT_BYTES * n);
+    if !grown.areas_fit(len) {
         return RunPlace::Nothing;
     }
-    if len < grown.index {
-        return RunPlace::Nothing;
-    }
-    let ceiling = grown.ceiling(len);
-    if ceiling.0 < grown.reserved as u64 + grown.data {
-        return RunPlace::Nothing;
-    }
-    RunPlace::At(Slot(1), grown)
+    RunPlace::At(Slot::at(1), grown)
 }
 
 // The lowest n unused slots, else the index grows by them.
@@ -71,15 +63,10 @@ fn place_file(img: &[u8], g: Geometry, from: Cursor, k: u64) -> Free
     ensures { λ r. ⌜ freeView r ≡ placeFile (length (now (img .entry))) (geometryView g) (entriesFrom (now (img .entry)) from) k ⌝ }
 {
     if k == 0 {
-        return Free::At(Block(0));
+        return Free::At(Block::at(0));
     }
-    free_runs::lowest_free(
-        img,
-        from,
-        k,
-        Block(g.reserved as u64),
-        g.ceiling(img.len() as u64),
-    )
+    let ceiling = g.ceiling(img.len() as u64);
+    free_runs::lowest_free(img, from, k, g.data_start(), ceiling)
 }
 
 // ---- the plan
@@ -90,22 +77,44 @@ pub enum Plan {
     At(Site),
 }
 
-fn kind_of(file: bool) -> u8
-    ensures { λ r. ⌜ ((bytes : List ℕ) → r ≡ kindOf (newOf file bytes)) ⌝ }
+// The slots of the run.
+fn slots_for(file: bool, path: &[u8]) -> u64
+    ensures { λ r. ⌜ ((bytes : List ℕ) → r ≡ newSlots (newOf file bytes) (now (path .entry))) ⌝ }
 {
-    if file { 0x12 } else { 0x11 }
+    let n = path.len() as u64;
+    if file {
+        return slots::run_slots(slots::FILE, n);
+    }
+    slots::run_slots(slots::DIRECTORY, n)
 }
 
 // The blocks that the bytes need; a directory needs none.
 fn blocks_for(g: Geometry, file: bool, bytes: &[u8]) -> u64
     requires { ⌜ g .field ≤ 5 ⌝ }
-    ensures { λ r. ⌜ r ≡ blocksNeeded (blockLength (geometryView g)) (length (bytesOf (newOf file (now (bytes .entry))))) ⌝ }
+    ensures { λ r. ⌜ r ≡ newBlocks (geometryView g) (newOf file (now (bytes .entry))) ⌝ }
 {
     let len = g.block_length();
     if file {
         return free_runs::blocks_needed(len, bytes.len() as u64);
     }
     free_runs::blocks_needed(len, 0)
+}
+
+// All of it at these places: the data area grows only if the blocks pass its end.
+fn site_at(g: Geometry, grown: Geometry, slot: Slot, slots: u64, start: Block, blocks: u64, stamp: u64) -> Site
+    requires { ⌜ start .0 + blocks < 2 ^ 64 ⌝ }
+    ensures { λ r. ⌜ siteView r ≡ siteFrom (geometryView g) (geometryView grown) (slot .0) slots (start .0) blocks (signedOf stamp) ⌝ }
+{
+    let end = start.after(blocks);
+    let new = grown.extend_data(end).restamp(g, stamp);
+    Site {
+        old: g,
+        new,
+        slot,
+        slots,
+        start,
+        end,
+    }
 }
 
 // 15 and 16: the places for the run and for the blocks.
@@ -118,28 +127,17 @@ fn plan_places(
     bytes: &[u8],
     stamp: u64,
 ) -> Plan
-    requires { ⌜ Opened (now img) g × Begins (now img) g from × Clear (now img) g (now path) ⌝ }
+    requires { ⌜ Opened (now img) g × Begins (now img) g from × Admitted (now img) g (now path) ⌝ }
     ensures { λ r. ⌜ Planned (now (img .entry)) (newOf file (now (bytes .entry))) (now (path .entry)) (signedOf stamp) r ⌝ }
 {
-    let slots = 1 + slots::continuing(kind_of(file), path.len() as u64);
+    let slots = slots_for(file, path);
     match place_run(img, g, from, slots) {
         RunPlace::Nothing => Plan::Refused(15),
         RunPlace::At(slot, grown) => {
             let blocks = blocks_for(g, file, bytes);
             match place_file(img, grown, from, blocks) {
                 Free::Nothing => Plan::Refused(16),
-                Free::At(start) => {
-                    let end = start.after(blocks);
-                    let new = grown.extend_data(end).restamp(g, stamp);
-                    Plan::At(Site {
-                        old: g,
-                        new,
-                        slot,
-                        slots,
-                        start,
-                        end,
-                    })
-                }
+                Free::At(start) => Plan::At(site_at(g, grown, slot, slots, start, blocks, stamp)),
             }
         }
     }

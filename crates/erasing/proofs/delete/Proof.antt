@@ -1,7 +1,6 @@
-use mathlib.Core.Path.{sym, ap, _∙_}
+use mathlib.Core.Path.{sym}
 use Rattle.rules.specs.Outcome.{done}
-use Rattle.contracts.specs.Contracts.{writtenAs}
-use Rattle.erasing.specs.Delete.{retyped-as, planned-refused, planned-at}
+use Rattle.erasing.specs.Delete.{doomed-refused, doomed-within, doomed-put}
 use borrow.Author.Needs.{needs}
 use Rattle.erasing.proofs.delete.Statement.{statement}
 use Rattle.erasing.proofs.delete.Tie as tie
@@ -22,20 +21,23 @@ deleted-kind-requires : tie.Need-deleted-kind-requires
 deleted-kind-requires c κs = search needs
 
 retype-requires : tie.Need-retype-requires
-retype-requires c κs = planned-at _ _ _ (c .before .before .before .before .before .plan-delete .ensures) _ _ (c .before .before .before .at .given .1) .0
+retype-requires c κs = doomed-within _ _ _ (c .before .before .before .before .before .plan-delete .ensures) _ _ (c .before .before .before .at .given .1)
 
 same-length : tie.Need-same-length
 same-length c = search needs
 
 returns : tie.Need-returns
-returns c = sym (planned-refused _ _ _ (c .before .before .before .plan-delete .ensures) _ (c .before .n .given .1) _)
+returns c = sym (doomed-refused _ _ _ (c .before .before .before .plan-delete .ensures) _ (c .before .n .given .1) _)
 
 same-length-2 : tie.Need-same-length-2
 same-length-2 c = search needs
 
 returns-2 : tie.Need-returns-2
 unfolding done
-returns-2 c = ap (writtenAs 0) (retyped-as _ _ _ _ _ _ (c .before .before .before .deleted-kind .ensures) (c .before .before .retype .ensures)) ∙ sym (planned-at _ _ _ (c .before .before .before .before .before .before .before .before .plan-delete .ensures) _ _ (c .before .before .before .before .before .before .at .given .1) .1 _)
+returns-2 c = let r = c .before .before in
+    let k = r .before in
+    let at = k .before .before .before in
+    doomed-put _ _ _ (at .before .before .plan-delete .ensures) _ _ (at .at .given .1) _ (k .deleted-kind .ensures) _ _ (r .retype .ensures)
 
 pub delete-spec : {M : Type 1} → statement M
 delete-spec =

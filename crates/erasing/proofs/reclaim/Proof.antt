@@ -3,7 +3,8 @@ use borrow.Author.Tests.{not-true, not-false}
 use Rattle.rules.specs.Outcome.{done}
 use Rattle.rules.specs.Writing.Laws.{reclaim-refused, reclaim-later}
 use Rattle.contracts.specs.Contracts.{writtenAs}
-use Rattle.judging.specs.View.{refused-says, good-says}
+use denote.Ref.{now}
+use Rattle.judging.specs.View.{Opened, refused-says, good-says}
 use Rattle.erasing.specs.Reclaim.{reclaim-written}
 use borrow.Author.Needs.{needs}
 use Rattle.erasing.proofs.reclaim.Statement.{statement}
@@ -27,11 +28,15 @@ same-length c = search needs
 is-writable-requires : tie.Need-is-writable-requires
 is-writable-requires c κs = search needs
 
+-- the volume that opens
+opened : (c : tie.After-g) → Opened (now (c .before .before .before .before .before .args .img)) (c .g .given .0 .0)
+opened c = good-says _ _ (c .before .before .judge .ensures) _ (c .g .given .1)
+
 returns : tie.Need-returns
-returns c = sym (reclaim-later _ _ (good-says _ _ (c .before .before .before .before .before .judge .ensures) _ (c .before .before .before .g .given .1)) (sym (c .before .is-writable .ensures) ∙ not-true _ (c .if1 .taken)) _)
+returns c = sym (reclaim-later _ _ (opened (c .before .before .before)) (sym (c .before .is-writable .ensures) ∙ not-true _ (c .if1 .taken)) _)
 
 write-reclaimed-requires : tie.Need-write-reclaimed-requires
-write-reclaimed-requires c κs = good-says _ _ (c .before .before .before .before .before .before .judge .ensures) _ (c .before .before .before .before .g .given .1)
+write-reclaimed-requires c κs = opened (c .before .before .before .before)
 
 same-length-2 : tie.Need-same-length-2
 same-length-2 c = search needs
@@ -44,7 +49,10 @@ same-length-3 c = search needs
 
 returns-3 : tie.Need-returns-3
 unfolding done
-returns-3 c = ap (writtenAs 0) (c .before .before .write-reclaimed .ensures) ∙ sym (reclaim-written _ _ (good-says _ _ (c .before .before .before .before .before .before .before .before .before .judge .ensures) _ (c .before .before .before .before .before .before .before .g .given .1)) (sym (c .before .before .before .before .before .is-writable .ensures) ∙ not-false _ (c .before .before .before .before .if1 .left)) _)
+returns-3 c = let w = c .before .before in
+    let e = w .before .before in
+    ap (writtenAs 0) (w .write-reclaimed .ensures)
+    ∙ sym (reclaim-written _ _ (opened (e .before .before .before)) (sym (e .before .is-writable .ensures) ∙ not-false _ (e .if1 .left)) _)
 
 pub reclaim-spec : {M : Type 1} → statement M
 reclaim-spec =

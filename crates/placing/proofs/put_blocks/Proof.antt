@@ -2,6 +2,7 @@ use denote.Ref.{now}
 use native.Mathlib.Omega.{arith}
 use Prim.Native.Nat.{_+_, _*_, _≤_}
 use lib.ListN.{length}
+use Rattle.placing.specs.Site.{siteView}
 use Rattle.placing.specs.Placed.{blocks-fit, blocks-put}
 use borrow.Author.Needs.{needs}
 use Rattle.placing.proofs.put_blocks.Statement.{statement}
@@ -14,7 +15,8 @@ block-length-requires c κs = search needs
 fits : (c : tie.After-block-length) → let a = c .before .before .before .args in
     let b = c .block-length .result in
     (a .p .start .0 * b + length (now (a .bytes)) ≤ a .p .end .0 * b) × (a .p .end .0 * b ≤ length (now (a .img)))
-fits c = blocks-fit _ _ _ _ (c .before .before .before .pre .1) (c .block-length .ensures .0)
+fits c = let x = c .before .before .before in
+    blocks-fit (siteView (x .args .p)) _ (c .block-length .ensures .0) _ _ (x .pre .1)
 
 offset-requires : tie.Need-offset-requires
 offset-requires c κs = omega (arith, fits c)
@@ -29,8 +31,11 @@ same-length : tie.Need-same-length
 same-length c = search needs
 
 returns : tie.Need-returns
-returns c = let x = c .before .before .before .before .before .before .before .before .before in
-    blocks-put (now (x .args .img)) _ (x .args .p) (now (x .args .bytes)) _ _ _ (x .pre .1 .ordered) (c .before .before .before .before .before .before .block-length .ensures .0) (c .before .before .before .before .before .offset .ensures .0) (c .before .before .before .before .offset2 .ensures .0) (c .before .before .write-part .ensures)
+returns c = let w = c .before .before in
+    let e = w .before .before in
+    let b = e .before .before in
+    let x = b .before .before .before in
+    blocks-put (siteView (x .args .p)) _ (b .block-length .ensures .0) _ _ (now (x .args .bytes)) _ _ (x .pre .1 .ordered) (e .before .offset .ensures .0) (e .offset2 .ensures .0) (w .write-part .ensures)
 
 pub put-blocks-spec : {M : Type 1} → statement M
 put-blocks-spec =

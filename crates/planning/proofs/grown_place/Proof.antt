@@ -1,8 +1,8 @@
-use mathlib.Core.Path.{sym, ap, _∙_}
+use mathlib.Core.Path.{_≡_, sym, ap, _∙_}
 use native.Mathlib.Omega.{arith}
-use Rattle.rules.specs.SuperBlock.{dataEnd}
-use Rattle.rules.specs.Writing.{grownPlace}
-use Rattle.planning.specs.Places.{grown-reserved, grown-data, grown-field, grown-high, grown-past, grown-low, grown-at}
+use borrow.Author.Tests.{not-true, not-false}
+use Rattle.geometry.specs.View.{geometryView, areasFit}
+use Rattle.planning.specs.Places.{grown-field, grown-not, grown-at}
 use borrow.Author.Needs.{needs}
 use Rattle.planning.proofs.grown_place.Statement.{statement}
 use Rattle.planning.proofs.grown_place.Tie as tie
@@ -11,45 +11,24 @@ mul-grow-index : tie.Need-mul-grow-index
 mul-grow-index c = search needs
 
 grow-index-requires : tie.Need-grow-index-requires
-grow-index-requires c κs = search needs
+grow-index-requires c κs = omega (arith, c .pre .0 .index-high)
+
+areas-fit-requires : tie.Need-areas-fit-requires
+areas-fit-requires c κs = grown-field _ _ (c .before .pre .0) _ _ (c .grow-index .ensures)
 
 returns : tie.Need-returns
-returns c = sym (ap (grownPlace _) (sym (c .before .before .grow-index .ensures)) ∙ grown-high _ _ (c .if1 .taken))
+returns c = let g = c .before .before in
+    grown-not _ _ (g .before .pre .0) _ _ (g .grow-index .ensures) (sym (c .before .areas-fit .ensures) ∙ not-true _ (c .if1 .taken))
+
+at-requires : tie.Need-at-requires
+at-requires c κs = search needs
 
 returns-2 : tie.Need-returns-2
-returns-2 c = let v = c .before .before .before .before .grow-index .ensures in
-    sym (ap (grownPlace _) (sym v) ∙ grown-past _ _ (c .if2 .taken) (omega (arith, grown-reserved _ _ _ v, c .before .before .before .before .before .pre .0 .reserved)))
-
-ceiling-requires : tie.Need-ceiling-requires
-ceiling-requires c κs = (omega (arith, grown-field _ _ _ (c .before .before .before .before .grow-index .ensures), c .before .before .before .before .before .pre .0 .bounded .field), c .if2 .left)
-
-cast-if3 : tie.Need-cast-if3
-cast-if3 c = search needs
-
-add-if3 : tie.Need-add-if3
-add-if3 c = let v = c .before .before .before .before .before .before .before .grow-index .ensures in
-    omega (arith, grown-reserved _ _ _ v, grown-data _ _ _ v, c .before .before .before .before .before .before .before .before .pre .0 .bounded .area)
-
-returns-3 : tie.Need-returns-3
-unfolding dataEnd
-returns-3 c = let v = c .before .before .before .before .before .before .before .before .before .grow-index .ensures in
-    sym (ap (grownPlace _) (sym v) ∙ grown-low _ _ (omega (arith, c .if3 .taken, c .before .before .before .before .ceiling .ensures)))
-
-returns-4 : tie.Need-returns-4
-unfolding dataEnd
-returns-4 c = let v = c .before .before .before .before .before .before .before .before .before .grow-index .ensures in
-    sym (ap (grownPlace _) (sym v) ∙ grown-at _ _ (c .before .before .before .before .before .before .before .if1 .left) (omega (arith, c .if3 .left, c .before .before .before .before .ceiling .ensures)))
+returns-2 c = let b = c .before in
+    let g = b .before .before in
+    grown-at _ _ (g .before .pre .0) _ _ (g .grow-index .ensures) (sym (b .before .areas-fit .ensures) ∙ not-false _ (b .if1 .left)) _ (c .at .ensures)
 
 pub grown-place-spec : {M : Type 1} → statement M
 grown-place-spec =
     tie.close
-    (tie.spec
-    mul-grow-index
-    grow-index-requires
-    returns
-    returns-2
-    ceiling-requires
-    cast-if3
-    add-if3
-    returns-3
-    returns-4)
+    (tie.spec mul-grow-index grow-index-requires areas-fit-requires returns at-requires returns-2)

@@ -1,25 +1,37 @@
-use mathlib.Core.Path.{sym, ap, _∙_}
+use mathlib.Core.Path.{sym, ap, ap₂, _∙_}
+use mathlib.Core.Option.{some}
 use Rattle.rules.specs.Regions.{lowestFree}
 use Rattle.planning.specs.Places.{place-none, place-blocks}
 use borrow.Author.Needs.{needs}
 use Rattle.planning.proofs.place_file.Statement.{statement}
 use Rattle.planning.proofs.place_file.Tie as tie
 
-returns : tie.Need-returns
-returns c = sym (place-none _ _ _ _ (c .if1 .taken))
+at-requires : tie.Need-at-requires
+at-requires c κs = search needs
 
-cast-t7 : tie.Need-cast-t7
-cast-t7 c = search needs
+returns : tie.Need-returns
+returns c = ap some (c .at .ensures) ∙ sym (place-none _ _ _ _ (c .before .if1 .taken))
 
 ceiling-requires : tie.Need-ceiling-requires
 ceiling-requires c κs = search needs
+
+data-start-requires : tie.Need-data-start-requires
+data-start-requires c κs = search needs
 
 lowest-free-requires : tie.Need-lowest-free-requires
 lowest-free-requires c κs = search needs
 
 returns-2 : tie.Need-returns-2
-returns-2 c = c .lowest-free .ensures ∙ ap (lowestFree _ _ _) (c .before .ceiling .ensures) ∙ sym (place-blocks _ _ _ _ (c .before .before .before .if1 .left))
+returns-2 c = let d = c .before in
+    c .lowest-free .ensures ∙ ap₂ (lowestFree _ _) (d .data-start .ensures) (d .before .ceiling .ensures) ∙ sym (place-blocks _ _ _ _ (d .before .before .if1 .left))
 
 pub place-file-spec : {M : Type 1} → statement M
 place-file-spec =
-    tie.close (tie.spec returns cast-t7 ceiling-requires lowest-free-requires returns-2)
+    tie.close
+    (tie.spec
+    at-requires
+    returns
+    ceiling-requires
+    data-start-requires
+    lowest-free-requires
+    returns-2)

@@ -1,9 +1,8 @@
 use mathlib.Core.Path.{sym, ap, _∙_}
 use Rattle.rules.specs.Writing.{lowestUnused}
-use Rattle.judging.specs.View.{opened-walks}
-use Rattle.planning.specs.Unused.{unusedView}
+use Rattle.judging.specs.View.{opened-super, opened-walks}
+use Rattle.index.specs.Unused.{unusedView}
 use Rattle.planning.specs.Places.{place-unused, place-grown}
-use Rattle.planning.specs.Planned.{opened-growable}
 use borrow.Author.Needs.{needs}
 use Rattle.planning.proofs.place_run.Statement.{statement}
 use Rattle.planning.proofs.place_run.Tie as tie
@@ -18,7 +17,7 @@ enum-told : tie.Need-enum-told
 enum-told c = search needs
 
 grown-place-requires : tie.Need-grown-place-requires
-grown-place-requires c κs = (opened-growable _ _ (c .before .before .before .before .pre .0), c .before .before .before .before .pre .3)
+grown-place-requires c κs = (opened-super _ _ (c .before .before .before .before .pre .0) .good, c .before .before .before .before .pre .3)
 
 returns : tie.Need-returns
 returns c = let p = c .before .before .before .before .before .pre in

@@ -1,29 +1,59 @@
 use mathlib.Core.Path.{_≡_, sym, _∙_}
-use mathlib.Core.Bool.{true}
+use mathlib.Core.Bool.{true, false}
 use denote.Ref.{now}
 use borrow.Author.Tests.{not-true, not-false}
 use Rattle.rules.specs.Lists.{isSome}
 use Rattle.rules.specs.SuperBlock.{writable}
+use Rattle.rules.specs.Names.{newPathGood, leading}
 use Rattle.rules.specs.Paths.{lookup}
-use Rattle.rules.specs.Refusals.{entries}
+use Rattle.rules.specs.Refusals.{Volume, entries}
+use Rattle.rules.specs.Writing.{nearestLive}
 use Rattle.geometry.specs.View.{geometryView}
+use Rattle.index.specs.Steps.{Walks}
 use Rattle.judging.specs.View.{volumeOf, opened-super, opened-walks}
-use Rattle.planning.specs.Planned.{found-is, nearest-is, planned-later, planned-name, planned-live, planned-orphan, clear}
+use Rattle.planning.specs.Planned.{found-is, nearest-is, planned-later, planned-name, planned-live, planned-orphan, admitted}
 use borrow.Author.Needs.{needs}
 use Rattle.planning.proofs.plan_opened.Statement.{statement}
 use Rattle.planning.proofs.plan_opened.Tie as tie
 
--- what the lookup found
-sought : (c : tie.After-is-found)
-    → isSome (lookup (now (c .before .before .before .before .before .before .before .before .before .before .args .path)) (entries (volumeOf (now (c .before .before .before .before .before .before .before .before .before .before .args .img)) (geometryView (c .before .before .before .before .before .before .before .before .before .before .args .g))))) ≡ c .is-found .result
-sought c = found-is _ _ (c .before .before .first-slot .result) (c .before .before .first-slot .ensures .0) _ _ (c .before .lookup .ensures) ∙ sym (c .is-found .ensures)
+abbrev volume : tie.Start → Volume
+volume x = volumeOf (now (x .args .img)) (geometryView (x .args .g))
+
+-- the places before, one behind the other
+abbrev first : tie.Else1 → tie.Start
+first c = c .before .before .before .before .before
+
+abbrev begun : tie.After-first-slot → tie.Start
+begun c = first (c .before .before .before)
+
+abbrev looked : tie.Else3 → tie.After-first-slot
+looked c = c .before .before .before
+
+-- what each test that was passed says
+current : (c : tie.Else1) → writable (geometryView (first c .args .g)) ≡ true
+current c = sym (c .before .is-writable .ensures) ∙ not-false _ (c .if1 .left)
+
+named : (c : tie.Else2) → newPathGood (now (first (c .before .before) .args .path)) ≡ true
+named c = sym (c .before .new-path-good .ensures) ∙ not-false _ (c .if2 .left)
+
+walks : (c : tie.After-first-slot) → Walks (now (begun c .args .img)) (c .first-slot .result)
+walks c = opened-walks _ _ (begun c .pre) _ (c .first-slot .ensures .0) (c .first-slot .ensures .1)
+
+sought : (c : tie.After-is-found) → let x = begun (c .before .before) in
+    isSome (lookup (now (x .args .path)) (entries (volume x))) ≡ c .is-found .result
+sought c = let f = c .before .before in
+    found-is _ _ (f .first-slot .result) (f .first-slot .ensures .0) _ _ (c .before .lookup .ensures) ∙ sym (c .is-found .ensures)
+
+absent : (c : tie.Else3) → let x = begun (looked c) in isSome (lookup (now (x .args .path)) (entries (volume x))) ≡ false
+absent c = sought (c .before) ∙ c .if3 .left
+
+nearest : (c : tie.After-nearest-live) → let x = begun (looked (c .before)) in
+    nearestLive (entries (volume x)) (leading (now (x .args .path))) ≡ c .nearest-live .result
+nearest c = let f = looked (c .before) in
+    nearest-is _ _ (f .first-slot .result) (f .first-slot .ensures .0) _ ∙ sym (c .nearest-live .ensures)
 
 is-writable-requires : tie.Need-is-writable-requires
 is-writable-requires c κs = search needs
-
--- a version that may be written
-current : (c : tie.Else1) → writable (geometryView (c .before .before .before .before .before .args .g)) ≡ true
-current c = sym (c .before .is-writable .ensures) ∙ not-false _ (c .if1 .left)
 
 returns : tie.Need-returns
 returns c = planned-later _ _ (c .before .before .before .before .before .pre) _ _ _ (sym (c .before .is-writable .ensures) ∙ not-true _ (c .if1 .taken))
@@ -32,31 +62,35 @@ new-path-good-requires : tie.Need-new-path-good-requires
 new-path-good-requires c κs = search needs
 
 returns-2 : tie.Need-returns-2
-returns-2 c = planned-name _ _ (c .before .before .before .before .before .before .before .pre) _ _ _ (current (c .before .before)) (sym (c .before .new-path-good .ensures) ∙ not-true _ (c .if2 .taken))
+returns-2 c = let p = c .before .before in
+    planned-name _ _ (first p .pre) _ _ _ (current p) (sym (c .before .new-path-good .ensures) ∙ not-true _ (c .if2 .taken))
 
 first-slot-requires : tie.Need-first-slot-requires
-first-slot-requires c κs = opened-super _ _ (c .before .before .before .before .before .before .before .pre)
+first-slot-requires c κs = opened-super _ _ (first (c .before .before) .pre)
 
 lookup-requires : tie.Need-lookup-requires
-lookup-requires c κs = opened-walks _ _ (c .before .before .before .before .before .before .before .before .pre) _ (c .first-slot .ensures .0) (c .first-slot .ensures .1)
+lookup-requires c κs = walks c
 
 is-found-requires : tie.Need-is-found-requires
 is-found-requires c κs = search needs
 
 returns-3 : tie.Need-returns-3
-returns-3 c = planned-live _ _ (c .before .before .before .before .before .before .before .before .before .before .before .pre) _ _ _ (current (c .before .before .before .before .before .before)) (sym (c .before .before .before .before .before .new-path-good .ensures) ∙ not-false _ (c .before .before .before .before .if2 .left)) (sought (c .before) ∙ c .if3 .taken)
+returns-3 c = let f = c .before .before .before in
+    planned-live _ _ (begun f .pre) _ _ _ (current (f .before .before .before)) (named (f .before)) (sought (c .before) ∙ c .if3 .taken)
 
 nearest-live-requires : tie.Need-nearest-live-requires
-nearest-live-requires c κs = opened-walks _ _ (c .before .before .before .before .before .before .before .before .before .before .before .pre) _ (c .before .before .before .first-slot .ensures .0) (c .before .before .before .first-slot .ensures .1)
+nearest-live-requires c κs = walks (looked c)
 
 returns-4 : tie.Need-returns-4
-returns-4 c = planned-orphan _ _ (c .before .before .before .before .before .before .before .before .before .before .before .before .before .pre) _ _ _ (current (c .before .before .before .before .before .before .before .before)) (sym (c .before .before .before .before .before .before .before .new-path-good .ensures) ∙ not-false _ (c .before .before .before .before .before .before .if2 .left)) (sought (c .before .before .before) ∙ c .before .before .if3 .left)
-    (nearest-is _ _ (c .before .before .before .before .before .first-slot .result) (c .before .before .before .before .before .first-slot .ensures .0) _ ∙ sym (c .before .nearest-live .ensures) ∙ not-true _ (c .if4 .taken))
+returns-4 c = let e = c .before .before in
+    let f = looked e in
+    planned-orphan _ _ (begun f .pre) _ _ _ (current (f .before .before .before)) (named (f .before)) (absent e) (nearest (c .before) ∙ not-true _ (c .if4 .taken))
 
 plan-places-requires : tie.Need-plan-places-requires
-plan-places-requires c κs = let n = sym (c .before .before .before .before .before .before .before .new-path-good .ensures) ∙ not-false _ (c .before .before .before .before .before .before .if2 .left) in
-    let d = nearest-is _ _ (c .before .before .before .before .before .first-slot .result) (c .before .before .before .before .before .first-slot .ensures .0) _ ∙ sym (c .before .nearest-live .ensures) ∙ not-false _ (c .if4 .left) in
-    (c .before .before .before .before .before .before .before .before .before .before .before .before .before .pre, (c .before .before .before .before .before .first-slot .ensures .0, c .before .before .before .before .before .first-slot .ensures .1), clear _ _ (c .before .before .before .before .before .before .before .before .before .before .before .before .before .pre) _ (current (c .before .before .before .before .before .before .before .before)) n (sought (c .before .before .before) ∙ c .before .before .if3 .left) d)
+plan-places-requires c κs = let e = c .before .before in
+    let f = looked e in
+    let o = begun f .pre in
+    (o, (f .first-slot .ensures .0, f .first-slot .ensures .1), admitted _ _ o _ (current (f .before .before .before)) (named (f .before)) (absent e) (nearest (c .before) ∙ not-false _ (c .if4 .left)))
 
 returns-5 : tie.Need-returns-5
 returns-5 c = search needs
