@@ -73,11 +73,11 @@ pub no-power : (n : ℕ) → (ones n ≡ 1 → ⊥) → none ≡ fieldOf n
 no-power n h = no-size n (λ i l e. h (ap ones e ∙ ones-pow (8 + i)))
 
 -- a size: its field is what the trailing zeros give
-unfoldable pub Right : ℕ → Type 0
-Right n = (7 ≤ trailingZeros 64 n) × Fits w8 (trailingZeros 64 n - 7) × (some (trailingZeros 64 n - 7) ≡ fieldOf n)
+unfoldable pub FieldRight : ℕ → Type 0
+FieldRight n = (7 ≤ trailingZeros 64 n) × Fits w8 (trailingZeros 64 n - 7) × (some (trailingZeros 64 n - 7) ≡ fieldOf n)
 
-five : (i : ℕ) → i < 5 → Right (2 ^ (8 + i))
-unfolding Right trailingZeros fieldOf pick
+five : (i : ℕ) → i < 5 → FieldRight (2 ^ (8 + i))
+unfolding FieldRight trailingZeros fieldOf pick
 five zero h = (omega arith, record { fits = omega arith }, refl)
 five (suc zero) h = (omega arith, record { fits = omega arith }, refl)
 five (suc (suc zero)) h = (omega arith, record { fits = omega arith }, refl)
@@ -85,7 +85,7 @@ five (suc (suc (suc zero))) h = (omega arith, record { fits = omega arith }, ref
 five (suc (suc (suc (suc zero)))) h = (omega arith, record { fits = omega arith }, refl)
 five (suc (suc (suc (suc (suc i))))) h = absurd (omega arith)
 
-pub right : (n : ℕ) → 256 ≤ n → n ≤ 4096 → ones n ≡ 1 → Right n
+pub right : (n : ℕ) → 256 ≤ n → n ≤ 4096 → ones n ≡ 1 → FieldRight n
 unfolding Power
 right n a b e =
     let (j, p, l) = one-one 13 n (omega arith) e in

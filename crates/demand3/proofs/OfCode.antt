@@ -20,7 +20,7 @@ use Rattle.contracts.specs.Contracts.Laws.{text-done}
 use Rattle.contracts.specs.declared.Content.{Content}
 use Rattle.laws.proofs.Lists.Every.{all-weaken}
 use Rattle.laws.proofs.Lists.Perms.{perm-length}
-use Rattle.demand3.specs.Runs.{passedAs, Answered, Served, Run, toldOf, BytesBack, Counted, ListingCounts, HeldByCode, Demand3OfCode}
+use Rattle.demand3.specs.Runs.{passedAs, Answered, Served, Run, toldOf, BytesBack, TellsCounts, ListingCounts, HeldByCode, Demand3OfCode}
 use Rattle.demand3.proofs.Theorem.{demand3}
 
 -- ---- an answer is the definitions' step

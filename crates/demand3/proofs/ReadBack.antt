@@ -30,11 +30,11 @@ use Rattle.laws.proofs.Entries.Paths.{lookup-live}
 use Rattle.demand3.proofs.Seen.{live-kind}
 
 -- ---- a live entry is the one that its path finds
-abbrev Finds : List Entry → Entry → Type 0
-Finds es e = isLive e ≡ true → lookup (e .path) es ≡ some e
+abbrev FindsItself : List Entry → Entry → Type 0
+FindsItself es e = isLive e ≡ true → lookup (e .path) es ≡ some e
 
-all-found : (es : List Entry) → pathsSound es ≡ true → All (Finds es) es
-all-found es h = all-placed (Finds es) es (λ pre e post w. lookup-live es pre e post h w)
+all-found : (es : List Entry) → pathsSound es ≡ true → All (FindsItself es) es
+all-found es h = all-placed (FindsItself es) es (λ pre e post w. lookup-live es pre e post h w)
 
 -- ---- a file's bytes lie in the image
 region-inside : (n : ℕ) (g : Geometry) (e : Entry) → GoodGeometry n g → FileRegion g e → e .start * blockLength g + e .length ≤ n
@@ -62,7 +62,7 @@ read-entry s v e out opens path found kind room =
 record Known (v : Volume) (e : Entry) : Type 0 where
   named : Named e
   region : regionGood (v .geometry) e ≡ true
-  found : Finds (entries v) e
+  found : FindsItself (entries v) e
 
 reads-known : (s : List ℕ) (v : Volume) → judge s ≡ accepted v → Opens s v → (e : Entry) → Known v e → ReadsBack s (seen s (v .geometry) e)
 unfolding seen isLive fileType
@@ -77,7 +77,7 @@ known : (s : List ℕ) (v : Volume) → Opens s v → All (Known v) (entries v)
 known s v o =
     let es = entries v in
     all-weaken _ (Known v) (λ e h. record { named = h .0 .0; region = h .0 .1; found = h .1 }) es
-    (all-and _ (Finds es) es
+    (all-and _ (FindsItself es) es
     (all-and Named _ es (named-entries s v o) (sound-says (v .geometry) es (o .regions-sound) .each))
     (all-found es (o .paths-sound)))
 

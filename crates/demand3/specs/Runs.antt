@@ -61,7 +61,7 @@ BytesBack k path out r after =
     → (r .refusal ≡ 0) × (r .length ≡ length (k .bytes)) × (after ≡ splice out 0 (k .bytes))
 
 -- a listing's last line counts the history's live entries, and the blocks granted and not given back
-pub record Counted (h : History) (text : List ℕ) : Type 0 where
+pub record TellsCounts (h : History) (text : List ℕ) : Type 0 where
   pub entries : List Held
   pub lines : List ℕ
   pub last : text ≡ lines ++ countLine entries
@@ -73,7 +73,7 @@ abbrev pub ListingCounts : History → List ℕ → List ℕ → ℕ → List �
 ListingCounts h s out r after =
     length s ≤ 65_536
     → 131_072 ≤ length out
-    → (text : List ℕ) × (r ≡ length text) × (after ≡ splice out 0 text) × Counted h text
+    → (text : List ℕ) × (r ≡ length text) × (after ≡ splice out 0 text) × TellsCounts h text
 
 -- the image holds what the history says, and so do the answers that show it
 pub record HeldByCode (u : List ℕ) (h : History) : Type 0 where

@@ -88,8 +88,7 @@ module _ (s : List ℕ) (kind : ℕ) (path bytes : List ℕ) (p : Site) (i : Sit
     (is : h ≡ siteHead (length s) p kind (length bytes) stamp) where
   pub head-fits : (h .at .0 + slotBytes * h .slots ≤ length s) × (1 ≤ h .slots) × (h .slots ≤ 256) × (nameAt (h .kind) + length path ≤ slotBytes * h .slots)
   head-fits =
-      rw is
-      (
+      rw is (
         omega (arith, i .run, i .indexFits),
         omega (arith, i .slots),
         omega (arith, i .slots, continuing-new kind (length path) (i .pathShort)),

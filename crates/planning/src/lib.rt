@@ -101,7 +101,15 @@ fn blocks_for(g: Geometry, file: bool, bytes: &[u8]) -> u64
 }
 
 // All of it at these places: the data area grows only if the blocks pass its end.
-fn site_at(g: Geometry, grown: Geometry, slot: Slot, slots: u64, start: Block, blocks: u64, stamp: u64) -> Site
+fn site_at(
+    g: Geometry,
+    grown: Geometry,
+    slot: Slot,
+    slots: u64,
+    start: Block,
+    blocks: u64,
+    stamp: u64,
+) -> Site
     requires { ⌜ start .0 + blocks < 2 ^ 64 ⌝ }
     ensures { λ r. ⌜ siteView r ≡ siteFrom (geometryView g) (geometryView grown) (slot .0) slots (start .0) blocks (signedOf stamp) ⌝ }
 {

@@ -14,7 +14,7 @@ use Rattle.rules.specs.Writing.{deletedKind}
 use Rattle.laws.proofs.Index.Entries.{retypedEntry}
 use Rattle.laws.proofs.Entries.EntryKinds.{deleted-gone}
 use Rattle.laws.proofs.Entries.Regions.{SameRegion, same-region, deleted-region, sound-map}
-use Rattle.laws.proofs.Entries.Paths.{Deletes, paths-delete, map-live, liveAt-says, liveAt-holds}
+use Rattle.laws.proofs.Entries.Paths.{TakesAway, paths-delete, map-live, liveAt-says, liveAt-holds}
 
 -- an entry as delete leaves it
 unfoldable pub deletedEntry : ℤ → Entry → Entry
@@ -44,7 +44,7 @@ module _ (path : List ℕ) (stamp : ℤ) where
   pub delete-regions : (g : Geometry) (es : List Entry) → regionsSound g (map (deleteAt path stamp) es) ≡ regionsSound g es
   delete-regions g es = sound-map g (deleteAt path stamp) delete-region es
 
-  deletes : Deletes path (deleteAt path stamp)
+  deletes : TakesAway path (deleteAt path stamp)
   unfolding deletedEntry retypedEntry isLive
   deletes = record {
     gone = λ e h. ap isLive (delete-here e h) ∙ deleted-gone (e .kind);

@@ -207,23 +207,23 @@ paths-reclaim es h = paths-only (λ e. not (isDeleted e)) live-kept es h
 
 -- ---- a live entry deleted
 -- the entry of the path is no longer live, and the others are as they were
-pub record Deletes (path : List ℕ) (f : Entry → Entry) : Type 0 where
+pub record TakesAway (path : List ℕ) (f : Entry → Entry) : Type 0 where
   pub gone : (e : Entry) → liveAt path e ≡ true → isLive (f e) ≡ false
   pub others : (e : Entry) → liveAt path e ≡ false → SamePath e (f e)
 
 -- an entry that is still live is as it was
-still : (path : List ℕ) (f : Entry → Entry) → Deletes path f → (e : Entry) → isLive (f e) ≡ true → SamePath e (f e)
+still : (path : List ℕ) (f : Entry → Entry) → TakesAway path f → (e : Entry) → isLive (f e) ≡ true → SamePath e (f e)
 still path f k e a = go (liveAt path e) refl
   where
     go : (t : Bool) → liveAt path e ≡ t → SamePath e (f e)
     go true l = absurd (not-both (isLive (f e)) a (k .gone e l))
     go false l = k .others e l
 
-still-live : (path : List ℕ) (f : Entry → Entry) → Deletes path f → (e : Entry) → isLive (f e) ≡ true → isLive e ≡ true
+still-live : (path : List ℕ) (f : Entry → Entry) → TakesAway path f → (e : Entry) → isLive (f e) ≡ true → isLive e ≡ true
 still-live path f k e a = sym (live-same e (f e) (still path f k e a)) ∙ a
 
 -- a live directory of another path stays
-directory-stays : (path : List ℕ) (f : Entry → Entry) → Deletes path f → (es : List Entry) (d : List ℕ) → eqList path d ≡ false → directoryLive es d ≡ true
+directory-stays : (path : List ℕ) (f : Entry → Entry) → TakesAway path f → (es : List Entry) (d : List ℕ) → eqList path d ≡ false → directoryLive es d ≡ true
     → directoryLive (map f es) d ≡ true
 unfolding directoryLive
 directory-stays path f k es d n l =
@@ -240,7 +240,7 @@ not-above : (path : List ℕ) (e : Entry) → (isLive e && isBelow path (e .path
 not-above path e h a =
     none-passes (eqList path) (leading (e .path)) (sym (below-leading path (e .path)) ∙ sym (ap (λ t. t && isBelow path (e .path)) a) ∙ h)
 
-pub paths-delete : (path : List ℕ) (f : Entry → Entry) (es : List Entry) → Deletes path f → anyBelow path es ≡ false → pathsSound es ≡ true
+pub paths-delete : (path : List ℕ) (f : Entry → Entry) (es : List Entry) → TakesAway path f → anyBelow path es ≡ false → pathsSound es ≡ true
     → pathsSound (map f es) ≡ true
 unfolding anyBelow
 paths-delete path f es k b h =

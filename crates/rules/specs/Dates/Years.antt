@@ -114,16 +114,16 @@ abbrev pub inCycle : ℤ → ℕ → ℤ
 inCycle q y = q *ℤ pos 400 +ℤ pos y
 
 -- the cycle begins before year 0: so does the year, or not
-abbrev Below : ℕ → ℕ → Type 0
-Below k y = (n : ℕ) × (inCycle (negsuc k) y ≡ negsuc n) × (suc k * 400 ≡ n + y + 1)
+abbrev CycleBelow : ℕ → ℕ → Type 0
+CycleBelow k y = (n : ℕ) × (inCycle (negsuc k) y ≡ negsuc n) × (suc k * 400 ≡ n + y + 1)
 
-abbrev Above : ℕ → ℕ → Type 0
-Above k y = (n : ℕ) × (inCycle (negsuc k) y ≡ pos n) × (y ≡ n + suc k * 400)
+abbrev CycleAbove : ℕ → ℕ → Type 0
+CycleAbove k y = (n : ℕ) × (inCycle (negsuc k) y ≡ pos n) × (y ≡ n + suc k * 400)
 
-either : (k y : ℕ) → Below k y ⊎ Above k y
+either : (k y : ℕ) → CycleBelow k y ⊎ CycleAbove k y
 either k y = go (decLt y (suc k * 400))
   where
-    go : Dec (y < suc k * 400) → Below k y ⊎ Above k y
+    go : Dec (y < suc k * 400) → CycleBelow k y ⊎ CycleAbove k y
     go (yes h) = inl (suc k * 400 - suc y, neg-sum (suc k * 400) y _ (omega arith), omega arith)
     go (no h) = inr (y - suc k * 400, pos-sum (suc k * 400) y _ (omega arith), omega arith)
 

@@ -112,10 +112,6 @@ module _ (s : List ℕ) (at : ℕ) (bs : List ℕ) (fits : at + length bs ≤ le
       ∙ getD-drop (at + length bs) s j 0
       ∙ ap (λ (k : ℕ). getD s k 0) ek
 
-  -- a number that lies before or after what was written reads as it did
-  pub le-splice-before : (w a : ℕ) → a + w ≤ at → le w (splice s at bs) a ≡ le w s a
-  le-splice-before w a h = le-ext w (splice s at bs) s a a (λ i hi. getD-splice-before (a + i) (omega arith))
-
   pub le-splice-after : (w a : ℕ) → at + length bs ≤ a → le w (splice s at bs) a ≡ le w s a
   le-splice-after w a h = le-ext w (splice s at bs) s a a (λ i hi. getD-splice-after (a + i) (omega arith))
 
@@ -134,13 +130,6 @@ le-leBytes zero v h = omega arith
 le-leBytes (suc w) v h =
     let r : le w (leBytes w (v / 256)) 0 ≡ v / 256 = le-leBytes w (v / 256) (omega (arith, pow-step w)) in
     omega (arith, le-shift w (v % 256) (leBytes w (v / 256)))
-
--- THE ROUND TRIP
-pub le-put : (w v : ℕ) (s : List ℕ) (at : ℕ) → at + w ≤ length s → v < 2 ^ (8 * w) → le w (splice s at (leBytes w v)) at ≡ v
-le-put w v s at h hv =
-    let e : le (length (leBytes w v)) (splice s at (leBytes w v)) at ≡ le (length (leBytes w v)) (leBytes w v) 0 =
-    le-splice-in s at (leBytes w v) (rw length-leBytes h) in
-    (rw length-leBytes at e) ∙ le-leBytes w v hv
 
 -- ---- turns of loops
 
@@ -163,22 +152,7 @@ pow-down e o h k = let ek : e - (o - 1) ≡ suc (e - o) = omega arith in rw ek (
 pub le-none : (e : ℕ) (s : List ℕ) → 0 ≡ le (e - e) s e
 le-none e s = let z : e - e ≡ 0 = omega arith in rw (z, le-zero)
 
--- eight bytes in a row, for straight-line code
-pub le-8 : (s : List ℕ) (at : ℕ) → le 8 s at
-    ≡ getD s at 0 + 256 * getD s (at + 1) 0 + 65536 * getD s (at + 2) 0 + 16777216 * getD s (at + 3) 0
-    + 4294967296 * getD s (at + 4) 0 + 1099511627776 * getD s (at + 5) 0 + 281474976710656 * getD s (at + 6) 0 + 72057594037927936 * getD s (at + 7) 0
-unfolding le
-le-8 s at = simp add-assoc (omega arith)
-
 -- ---- writers
-
--- a turn of a loop that writes the list bs from at on, at its element i
-pub splice-turn : (s : List ℕ) (at i : ℕ) (bs : List ℕ) → at + i < length s → i < length bs
-    → splice (set s (at + i) (getD bs i 0)) (at + (i + 1)) (drop (i + 1) bs) ≡ splice s (at + i) (drop i bs)
-splice-turn s at i bs h k =
-    sym (ap (splice s (at + i)) (drop-cons bs i 0 k)
-    ∙ splice-cons s (at + i) (getD bs i 0) (drop (suc i) bs) h
-    ∙ rw (add-assoc at i 1, ← add-one i))
 
 -- the same, with nothing before
 pub splice-turn₀ : (s : List ℕ) (i : ℕ) (bs : List ℕ) → i < length s → i < length bs
@@ -218,17 +192,6 @@ splice-all s bs h = let z : 0 + length bs ≡ length s = omega arith in rw (z, d
 pub lent-back : (s : List ℕ) (a e : ℕ) (ys : List ℕ) → a ≤ e → e ≤ length s → length ys ≡ e - a → putMid a (e - a) s ys ≡ splice s a ys
 unfolding splice
 lent-back s a e ys h k l = let z : a + length ys ≡ e = omega arith in rw (post-is a e s h, z)
-
--- the frame laws of a written number, by its width
-module _ (w v : ℕ) (s : List ℕ) (at : ℕ) (fits : at + w ≤ length s) where
-  pub length-put : length (splice s at (leBytes w v)) ≡ length s
-  length-put = length-splice s at (leBytes w v) (rw length-leBytes fits)
-
-  pub le-put-before : (u a : ℕ) → a + u ≤ at → le u (splice s at (leBytes w v)) a ≡ le u s a
-  le-put-before u a h = le-splice-before s at (leBytes w v) (rw length-leBytes fits) u a h
-
-  pub le-put-after : (u a : ℕ) → at + w ≤ a → le u (splice s at (leBytes w v)) a ≡ le u s a
-  le-put-after u a h = le-splice-after s at (leBytes w v) (rw length-leBytes fits) u a (rw length-leBytes h)
 
 -- ---- sums of bytes
 pub byteSum-nil : byteSum [] ≡ 0

@@ -10,14 +10,6 @@ use Rattle.rules.specs.Lists.Laws.{length-padded}
 use Rattle.rules.specs.Index.{Item, unused, fileType, nameAt, continuing, slotBytes, typeUnused, unusedBytes}
 
 -- ---- where a name starts
-pub name-at-file : (t : ℕ) → fileType t ≡ true → nameAt t ≡ 34
-unfolding nameAt pick
-name-at-file t e = rw e
-
-pub name-at-directory : (t : ℕ) → fileType t ≡ false → nameAt t ≡ 10
-unfolding nameAt pick
-name-at-directory t e = rw e
-
 pub name-at-bounds : (t : ℕ) → (10 ≤ nameAt t) × (nameAt t ≤ 34)
 unfolding nameAt pick
 name-at-bounds t = by (fileType t)
@@ -28,10 +20,6 @@ name-at-bounds t = by (fileType t)
 
 -- ---- the slots that continue a name
 module _ (t n : ℕ) where
-  pub continuing-is : continuing t n ≡ (n + nameAt t) / 64
-  unfolding continuing
-  continuing-is = refl
-
   -- in parts none of which is larger than n, so that nothing wraps where n fits 64 bits
   pub continuing-parts : continuing t n ≡ n / 64 + (n % 64 + nameAt t) / 64
   unfolding continuing

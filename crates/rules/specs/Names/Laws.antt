@@ -30,26 +30,10 @@ module _ (b : ℕ) where
 pub byte-zero : byteGood 0 ≡ false
 byte-zero = byte-low 0 (omega arith)
 
-pub byte-slash : byteGood slash ≡ true
-unfolding byteGood isMark any
-byte-slash = refl
-
--- ---- texts, byte by byte. The two laws after `text-nil` hold of a rule on single bytes alone.
-pub text-nil : textGood [] ≡ true
-unfolding textGood all
-text-nil = refl
-
+-- ---- texts, byte by byte
 pub text-cons : (b : ℕ) (bs : List ℕ) → textGood (b ∷ bs) ≡ (byteGood b && textGood bs)
 unfolding textGood all
 text-cons b bs = refl
-
-pub text-append : (xs ys : List ℕ) → textGood (xs ++ ys) ≡ (textGood xs && textGood ys)
-unfolding textGood
-text-append xs ys = all-append byteGood xs ys
-
--- a slash parts a text anywhere
-pub text-slash : (xs ys : List ℕ) → textGood (xs ++ slash ∷ ys) ≡ (textGood xs && textGood ys)
-text-slash xs ys = text-append xs (slash ∷ ys) ∙ rw (text-cons slash ys, byte-slash)
 
 -- a good text has no zero byte, so that the first zero behind it ends the name
 module _ (b : ℕ) (bs : List ℕ) (e : textGood (b ∷ bs) ≡ true) where
@@ -64,24 +48,7 @@ unfolding upToZero pick
 text-up-to-zero [] rest e = refl
 text-up-to-zero (b ∷ bs) rest e = rw (first-not-zero b bs e) (ap (λ l. b ∷ l) (text-up-to-zero bs rest (first-good b bs e .1)))
 
-pub text-no-zero : (s : List ℕ) → textGood s ≡ true → hasZero s ≡ false
-unfolding hasZero
-text-no-zero [] e = refl
-text-no-zero (b ∷ bs) e = rw (first-not-zero b bs e) (text-no-zero bs (first-good b bs e .1))
-
 -- ---- parts
-pub parts-nil : parts [] ≡ [] ∷ []
-unfolding parts
-parts-nil = refl
-
-pub parts-slash : (bs : List ℕ) → parts (slash ∷ bs) ≡ [] ∷ parts bs
-unfolding parts pick
-parts-slash bs = refl
-
-pub parts-other : (b : ℕ) (bs : List ℕ) → eqb b slash ≡ false → parts (b ∷ bs) ≡ intoFirst b (parts bs)
-unfolding parts
-parts-other b bs e = pick-false _ _ e
-
 -- there is always a first part
 pub parts-some : (s : List ℕ) → (q : List ℕ) × (qs : List (List ℕ)) × (parts s ≡ q ∷ qs)
 unfolding parts pick intoFirst
@@ -92,22 +59,7 @@ parts-some (b ∷ bs) = by (eqb b slash) (parts-some bs)
     by true r = ([], parts bs, refl)
     by false (q, qs, e) = (b ∷ q, qs, rw e)
 
--- the parts of two paths joined by a slash
-pub parts-join : (xs ys : List ℕ) → parts (xs ++ slash ∷ ys) ≡ parts xs ++ parts ys
-unfolding parts pick intoFirst
-parts-join [] ys = refl
-parts-join (b ∷ bs) ys = by (eqb b slash) (parts-join bs ys) (parts-some bs)
-  where
-    by : (t : Bool) → parts (bs ++ slash ∷ ys) ≡ parts bs ++ parts ys → ((q : List ℕ) × (qs : List (List ℕ)) × (parts bs ≡ q ∷ qs))
-        → pick t ([] ∷ parts (bs ++ slash ∷ ys)) (intoFirst b (parts (bs ++ slash ∷ ys))) ≡ pick t ([] ∷ parts bs) (intoFirst b (parts bs)) ++ parts ys
-    by true e r = rw e
-    by false e (q, qs, f) = rw (e, f)
-
 -- ---- paths
-pub path-nil : pathGood [] ≡ false
-unfolding pathGood textGood parts all partGood eqList
-path-nil = refl
-
 module _ (s : List ℕ) (e : pathGood s ≡ true) where
   path-both : (textGood s ≡ true) × (all partGood (parts s) ≡ true)
   unfolding pathGood
@@ -116,37 +68,13 @@ module _ (s : List ℕ) (e : pathGood s ≡ true) where
   pub path-text : textGood s ≡ true
   path-text = path-both .0
 
-  pub path-parts : all partGood (parts s) ≡ true
-  path-parts = path-both .1
-
   pub path-up-to-zero : (rest : List ℕ) → upToZero (s ++ 0 ∷ rest) ≡ s
   path-up-to-zero rest = text-up-to-zero s rest path-text
-
-pub path-some : (s : List ℕ) → pathGood s ≡ true → 0 < length s
-path-some [] e = clash (sym e ∙ path-nil)
-path-some (b ∷ bs) e = omega arith
-
--- two paths joined by a slash are a path just where both are
-pub path-join : (xs ys : List ℕ) → pathGood (xs ++ slash ∷ ys) ≡ (pathGood xs && pathGood ys)
-unfolding pathGood
-path-join xs ys =
-    ap₂ (λ a b. a && b) (text-slash xs ys) (ap (all partGood) (parts-join xs ys) ∙ all-append partGood (parts xs) (parts ys))
-    ∙ by (textGood xs) (textGood ys) (all partGood (parts xs)) (all partGood (parts ys))
-  where
-    by : (a b c d : Bool) → ((a && b) && (c && d)) ≡ ((a && c) && (b && d))
-    by true true c d = refl
-    by true false true d = refl
-    by true false false d = refl
-    by false b c d = refl
 
 -- ---- with a length
 pub new-path : (p : List ℕ) → newPathGood p ≡ true → (pathGood p ≡ true) × (length p ≤ 285)
 unfolding newPathGood
 new-path p e = let r = and-true (pathGood p) (leb (length p) 285) e in (r .0, leb-true _ _ (r .1))
-
-pub new-path-made : (p : List ℕ) → pathGood p ≡ true → length p ≤ 285 → newPathGood p ≡ true
-unfolding newPathGood
-new-path-made p e h = and-both _ _ e (le-leb _ _ h)
 
 pub volume-text : (n : List ℕ) → volumeTextGood n ≡ true → textGood n ≡ true
 unfolding volumeTextGood
@@ -155,10 +83,6 @@ volume-text n e = and-true (textGood n) (not (any (eqb slash) n)) e .0
 pub volume-name : (n : List ℕ) → volumeNameGood n ≡ true → (volumeTextGood n ≡ true) × (length n ≤ 51)
 unfolding volumeNameGood
 volume-name n e = let r = and-true (volumeTextGood n) (leb (length n) 51) e in (r .0, leb-true _ _ (r .1))
-
-pub volume-name-nil : volumeNameGood [] ≡ true
-unfolding volumeNameGood volumeTextGood any
-volume-name-nil = rw text-nil
 
 -- ---- below a path, by what stands behind the path's own bytes
 pub below-short : (a p : List ℕ) → length p ≤ length a → isBelow a p ≡ false

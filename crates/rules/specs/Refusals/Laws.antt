@@ -51,12 +51,6 @@ pub found-some : {A B : Type 0} {o : Option B} {y : B} (n : ℕ) (next : B → V
 unfolding needFound
 found-some n next e = rw e
 
-pub found-accepted : {A B : Type 0} {x : A} (o : Option B) (n : ℕ) (next : B → Verdict A)
-    → needFound o n next ≡ accepted x → (y : B) × (o ≡ some y) × (next y ≡ accepted x)
-unfolding needFound
-found-accepted none n next e = not-accepted e
-found-accepted (some y) n next e = (y, refl, e)
-
 pub then-refused : {A B : Type 0} {v : Verdict A} {n : ℕ} (next : A → Verdict B) → v ≡ refused n → andThen v next ≡ refused n
 unfolding andThen
 then-refused next e = rw e
@@ -260,10 +254,6 @@ judgeGeometry-same s t l same =
     let e = sealed-part s t same in
     rw (l, magic-same s t e, version-same s t e, checksum-same s t e, geometry-same s t same)
 
--- so a writing past the super-block leaves the judgement of it
-pub judgeGeometry-frame : (s : List ℕ) (at : ℕ) (bs : List ℕ) → superBlockAt + 42 ≤ at → at + length bs ≤ length s → judgeGeometry (splice s at bs) ≡ judgeGeometry s
-judgeGeometry-frame s at bs l h = judgeGeometry-same (splice s at bs) s (length-splice s at bs h) (super-frame s at bs l h)
-
 -- ---- a super-block that was written is good
 module _ (t : List ℕ) (g : Geometry) (here : part t superBlockAt 42 ≡ superBlockBytes g) where
   pub written-magic-good : magicGood t ≡ true
@@ -381,11 +371,3 @@ fresh-version n b reserved z = refl
 pub fresh-block : (n b reserved : ℕ) (z : ℤ) → blockLength (freshGeometry n b reserved z) ≡ blockBytes b
 unfolding blockLength freshGeometry
 fresh-block n b reserved z = refl
-
-pub format-judged : (s : List ℕ) (b reserved : ℕ) (z : ℤ) (name : List ℕ)
-    → lengthGood (length s) ≡ true → geometryGood (length s) (freshGeometry (length s) b reserved z) ≡ true → volumeNameGood name ≡ true
-    → judgeGeometry (formatted s (freshGeometry (length s) b reserved z) name) ≡ accepted (asStored (freshGeometry (length s) b reserved z))
-format-judged s b reserved z name l e n =
-    let g = freshGeometry (length s) b reserved z in
-    super-judge (formatted s g name) (asStored g)
-    (format-super s g name (length-bounds (length s) l .1) (omega (arith, fresh-version (length s) b reserved z)) (geometry-good (length s) g e) (volume-name name n))

@@ -81,11 +81,6 @@ run-says es b (suc k) e u h l =
     let p = and-true (not (busy es b)) (runFree es (suc b) k) e in
     from (λ v. busy es v ≡ false) b u h (not-true (busy es b) (p .0)) (λ g. run-says es (suc b) k (p .1) u g (omega arith)) (decLt b u)
 
-pub run-holds : (es : List Entry) (b k : ℕ) → ((u : ℕ) → b ≤ u → u < b + k → busy es u ≡ false) → runFree es b k ≡ true
-unfolding runFree
-run-holds es b zero h = refl
-run-holds es b (suc k) h = rw (h b (omega arith) (omega arith)) (run-holds es (suc b) k (λ u p q. h u (omega arith) (omega arith)))
-
 -- ---- the lowest free run
 -- a turn: the test at `low`, and the answer from the next start on
 turn : (es : List Entry) (k low ceiling : ℕ) (t : Bool) → runFree es low k ≡ t → low + k ≤ ceiling → (r : Option ℕ) → LowestRun es k (suc low) ceiling r
@@ -111,47 +106,13 @@ pub lowest-run : (es : List Entry) (k low ceiling : ℕ) → LowestRun es k low 
 unfolding lowestFree
 lowest-run es k low ceiling = search-run es k ceiling (ceiling + 1 - (low + k)) low refl
 
--- one answer only is so
-run-one : (es : List Entry) (k low ceiling : ℕ) (r q : Option ℕ) → LowestRun es k low ceiling r → LowestRun es k low ceiling q → r ≡ q
-unfolding LowestRun
-run-one es k low ceiling none none h g = refl
-run-one es k low ceiling none (some c) h g = clash (sym (g .2) ∙ h c (g .0) (g .1))
-run-one es k low ceiling (some b) none h g = clash (sym (h .2) ∙ g b (h .0) (h .1))
-run-one es k low ceiling (some b) (some c) h g = by (decLt b c) (decLt c b)
-  where
-    by : Dec (b < c) → Dec (c < b) → _≡_ {A = Option ℕ} (some b) (some c)
-    by (yes l) m = clash (sym (h .2) ∙ g .3 b (h .0) l)
-    by (no l) (yes m) = clash (sym (g .2) ∙ h .3 c (g .0) m)
-    by (no l) (no m) = ap {B = Option ℕ} some (omega arith)
-
-pub run-lowest : (es : List Entry) (k low ceiling : ℕ) (r : Option ℕ) → LowestRun es k low ceiling r → lowestFree es k low ceiling ≡ r
-run-lowest es k low ceiling r h = run-one es k low ceiling (lowestFree es k low ceiling) r (lowest-run es k low ceiling) h
-
 pub lowest-is : (es : List Entry) (k low ceiling : ℕ) (r : Option ℕ) → lowestFree es k low ceiling ≡ r → LowestRun es k low ceiling r
 lowest-is es k low ceiling r e = rw e at (lowest-run es k low ceiling)
-
--- it depends on which blocks are busy, and on nothing else
-pub run-ext : (es fs : List Entry) → ((b : ℕ) → busy es b ≡ busy fs b) → (b k : ℕ) → runFree es b k ≡ runFree fs b k
-unfolding runFree
-run-ext es fs h b zero = refl
-run-ext es fs h b (suc k) = ap₂ (λ s t. not s && t) (h b) (run-ext es fs h (suc b) k)
-
-pub lowest-ext : (es fs : List Entry) → ((b : ℕ) → busy es b ≡ busy fs b) → (k low ceiling : ℕ) → lowestFree es k low ceiling ≡ lowestFree fs k low ceiling
-unfolding lowestFree lowestFrom
-lowest-ext es fs h k low ceiling = go (ceiling + 1 - (low + k)) low
-  where
-    go : (n b : ℕ) → lowestFrom es k n b ≡ lowestFrom fs k n b
-    go zero b = refl
-    go (suc n) b = ap₂ (λ t r. firstIf t b r) (run-ext es fs h b k) (go n (suc b))
 
 -- ---- the blocks of so many bytes
 pub needed-covers : (block bytes : ℕ) → 0 < block → bytes ≤ blocksNeeded block bytes * block
 unfolding blocksNeeded
 needed-covers block bytes h = omega (arith, lt-div-mul-add {a = bytes + block - 1} h)
-
-pub needed-least : (block bytes : ℕ) → 0 < block → blocksNeeded block bytes * block < bytes + block
-unfolding blocksNeeded
-needed-least block bytes h = omega (arith, div-mul-le-self (bytes + block - 1) block)
 
 pub needed-none : (block : ℕ) → 0 < block → blocksNeeded block 0 ≡ 0
 unfolding blocksNeeded

@@ -84,10 +84,6 @@ module _ (n : ℕ) (g : Geometry) (good : GoodGeometry n g) where
   unfolding blockLength
   block-low = block-bounds (g .blockField) (good .field-low) (good .field-high) .0
 
-  pub block-high : blockLength g ≤ 4096
-  unfolding blockLength
-  block-high = block-bounds (g .blockField) (good .field-low) (good .field-high) .1
-
   pub areas-fit : dataEnd g * blockLength g + g .indexBytes ≤ n
   areas-fit = omega (arith, mul-le-mul-right (blockLength g) (good .data-fits), ceiling-fits n g (good .index-fits))
 
@@ -167,10 +163,6 @@ stored-modulo z =
 unfoldable pub asStored : Geometry → Geometry
 asStored g = withStamp g (storedStamp (g .stamp))
 
-pub as-stored : (g : Geometry) → mag (g .stamp) < 2 ^ 63 → asStored g ≡ g
-unfolding asStored withStamp
-as-stored g h = rw (stored-stamp (g .stamp) h)
-
 -- it differs in nothing else, and is as good
 pub stored-good : (n : ℕ) (g : Geometry) → geometryGood n (asStored g) ≡ geometryGood n g
 unfolding geometryGood asStored withStamp blockLength dataEnd ceilingBlock
@@ -179,10 +171,6 @@ stored-good n g = refl
 pub stored-block : (g : Geometry) → blockLength (asStored g) ≡ blockLength g
 unfolding asStored withStamp blockLength
 stored-block g = refl
-
-pub stored-end : (g : Geometry) → dataEnd (asStored g) ≡ dataEnd g
-unfolding asStored withStamp dataEnd
-stored-end g = refl
 
 pub stored-index : (g : Geometry) → asStored g .indexBytes ≡ g .indexBytes
 unfolding asStored withStamp
