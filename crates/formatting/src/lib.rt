@@ -32,7 +32,7 @@ fn fresh(n: u64, field: u8, reserved: u32, stamp: u64) -> Geometry
         stamp,
         data: 0,
         index: ends::BYTES,
-        version: 0x10,
+        version: geometry::VERSION,
         total,
         reserved,
         field,

@@ -9,8 +9,8 @@ ghost use Rattle.rules.specs.SuperBlock.{blockLength, dataEnd, ceilingBlock, wr
 ghost use Rattle.rules.specs.Fields.{signedOf};
 ghost use Rattle.geometry.specs.View.{geometryView, areasFit};
 
-// The latest version that is written; a later one is only read.
-const WRITABLE: u8 = 0x10;
+// Version 1.0: the least that is read, and the only one that is written.
+pub const VERSION: u8 = 0x10;
 
 // The least bytes of the reserved area: the boot code and the super-block.
 const LEAST_RESERVED: u64 = 512;
@@ -128,7 +128,7 @@ impl Geometry {
     pub fn is_writable(self) -> bool
         ensures { λ r. ⌜ r ≡ writable (geometryView self) ⌝ }
     {
-        self.version <= WRITABLE
+        self.version <= VERSION
     }
 
     // Whether the geometry is good for an image of n bytes, at any 64-bit values.

@@ -87,7 +87,7 @@ fn version_good(img: &[u8]) -> bool
     requires { ⌜ 512 ≤ length (now img) ⌝ }
     ensures { λ r. ⌜ r ≡ versionGood (now (img .entry)) ⌝ }
 {
-    0x10 <= img[VERSION]
+    geometry::VERSION <= img[VERSION]
 }
 
 fn checksum_good(img: &[u8]) -> bool
