@@ -108,7 +108,8 @@ fn write_reclaimed(img: &mut [u8], g: Geometry, stamp: u64)
     ensures { λ _. ⌜ now (img .exit) ≡ reclaimed (now (img .entry)) (geometryView g) (signedOf stamp) ⌝ }
 {
     let from = super_block::first_slot(img, g);
-    let least = g.trim_data(free_runs::last_end(img, from)).restamp(g, stamp);
+    let least = g.trim_data(free_runs::last_end(img, from))
+        .restamp(g, stamp);
     super_block::put_sizes(img, least);
     clear_deleted(img, from);
 }
