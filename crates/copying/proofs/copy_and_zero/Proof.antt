@@ -22,10 +22,12 @@ same-length : tie.Need-same-length
 same-length c = search needs
 
 returns : tie.Need-returns
-returns c = let a = c .before .before .before .before .before .before .before .before .before .before in
+returns c =
+    let i = c .before .before .before .before .before .before in
+    let a = i .before .before .before .before in
     let d = now (a .args .dst) in
     let s = now (a .args .src) in
-    let e = c .before .before .before .before .before .before .copy-into .ensures in
+    let e = i .copy-into .ensures in
     c .before .before .zero-from .ensures
     ∙ ap (λ (x : List ℕ). splice x (length s) (replicate (length x - length s) 0)) e
     ∙ rw (length-splice d 0 s (omega arith)) (padded-splice d s (a .pre))

@@ -26,24 +26,34 @@ length-good-requires c κs = search needs
 returns : tie.Need-returns
 returns c = sym (format-length _ _ _ _ _ (sym (c .before .length-good .ensures) ∙ not-true _ (c .if1 .taken)))
 
+-- the places passed on the way: the start, the length's test, the block size, the geometry's test
+abbrev start : tie.Else1 → tie.Start
+start c = c .before .before .before .before
+
+abbrev long : tie.After-known-told → tie.Else1
+long c = c .before .before .before .before
+
+abbrev sized : tie.Else3 → tie.After-known-told
+sized c = c .before .before .before .before
+
 -- what each test that was passed says
 length-is : (c : tie.Else1) → lengthGood (length (now (c .before .before .before .before .args .img))) ≡ true
 length-is c = sym (c .before .length-good .ensures) ∙ not-false _ (c .if1 .left)
 
-field-some : (c : tie.After-known-told) → fieldOf (c .before .before .before .before .before .before .before .before .args .bytes) ≡ some (c .before .field .given .0 .0)
+field-some : (c : tie.After-known-told) → fieldOf (start (long c) .args .bytes) ≡ some (c .before .field .given .0 .0)
 field-some c = sym (c .before .before .before .block-field .ensures) ∙ ap fieldView (c .before .field .given .1)
 
 -- whether the fresh geometry with the block size field b is good
 abbrev freshGood : tie.Start → ℕ → Bool
 freshGood x b = geometryGood (length (now (x .args .img))) (freshGeometry (length (now (x .args .img))) b (x .args .reserved) (signedOf (x .args .stamp)))
 
-tested : (c : tie.After-is-good) → freshGood (c .before .before .before .before .before .before .before .before .before .before .before) (c .before .before .before .before .field .given .0 .0) ≡ c .is-good .result
+tested : (c : tie.After-is-good) → freshGood (start (long (c .before .before .before))) (c .before .before .before .before .field .given .0 .0) ≡ c .is-good .result
 tested c = ap (geometryGood _) (sym (c .before .fresh .ensures)) ∙ sym (c .is-good .ensures)
 
-good : (c : tie.Else3) → freshGood (c .before .before .before .before .before .before .before .before .before .before .before .before) (c .before .before .before .before .before .field .given .0 .0) ≡ true
+good : (c : tie.Else3) → freshGood (start (long (sized c))) (c .before .before .before .before .before .field .given .0 .0) ≡ true
 good c = tested (c .before) ∙ not-false _ (c .if3 .left)
 
-named : (c : tie.Else4) → volumeNameGood (now (c .before .before .before .before .before .before .before .before .before .before .before .before .before .before .args .name)) ≡ true
+named : (c : tie.Else4) → volumeNameGood (now (start (long (sized (c .before .before))) .args .name)) ≡ true
 named c = sym (c .before .volume-name-good .ensures) ∙ not-false _ (c .if4 .left)
 
 block-field-requires : tie.Need-block-field-requires
@@ -68,13 +78,13 @@ is-good-requires : tie.Need-is-good-requires
 is-good-requires c κs = search needs
 
 returns-3 : tie.Need-returns-3
-returns-3 c = sym (format-geometry _ _ _ _ _ (length-is (c .before .before .before .before .before .before .before .before)) _ (field-some (c .before .before .before .before)) (tested (c .before) ∙ not-true _ (c .if3 .taken)))
+returns-3 c = sym (format-geometry _ _ _ _ _ (length-is (long (c .before .before .before .before))) _ (field-some (c .before .before .before .before)) (tested (c .before) ∙ not-true _ (c .if3 .taken)))
 
 volume-name-good-requires : tie.Need-volume-name-good-requires
 volume-name-good-requires c κs = search needs
 
 returns-4 : tie.Need-returns-4
-returns-4 c = sym (format-name _ _ _ _ _ (length-is (c .before .before .before .before .before .before .before .before .before .before)) _ (field-some (c .before .before .before .before .before .before)) (good (c .before .before)) (sym (c .before .volume-name-good .ensures) ∙ not-true _ (c .if4 .taken)))
+returns-4 c = sym (format-name _ _ _ _ _ (length-is (long (sized (c .before .before)))) _ (field-some (sized (c .before .before))) (good (c .before .before)) (sym (c .before .volume-name-good .ensures) ∙ not-true _ (c .if4 .taken)))
 
 write-volume-requires : tie.Need-write-volume-requires
 write-volume-requires c κs = (length-least _ _ (geometry-good _ _ (good (c .before .before .before))), volume-name _ (named (c .before)))
@@ -87,9 +97,12 @@ same-length c = search needs
 
 returns-6 : tie.Need-returns-6
 unfolding done
-returns-6 c = let a = c .before .before .before .before .before .before .before .before .before .before .before .before .before .before .before .before .before .before .args in
-    ap (writtenAs 0) (c .before .before .write-volume .ensures ∙ ap (λ (g : Geometry). formatted (now (a .img)) g (now (a .name))) (c .before .before .before .before .before .before .before .before .fresh .ensures))
-    ∙ sym (format-done _ _ _ _ _ (length-is (c .before .before .before .before .before .before .before .before .before .before .before .before .before .before)) _ (field-some (c .before .before .before .before .before .before .before .before .before .before)) (good (c .before .before .before .before .before .before)) (named (c .before .before .before .before)))
+returns-6 c =
+    let e = c .before .before .before .before .before .before in
+    let k = sized e in
+    let a = start (long k) .args in
+    ap (writtenAs 0) (c .before .before .write-volume .ensures ∙ ap (λ (g : Geometry). formatted (now (a .img)) g (now (a .name))) (e .before .before .fresh .ensures))
+    ∙ sym (format-done _ _ _ _ _ (length-is (long k)) _ (field-some k) (good e) (named (c .before .before .before .before)))
 
 pub format-spec : {M : Type 1} → statement M
 format-spec =

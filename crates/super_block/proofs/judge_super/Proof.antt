@@ -1,5 +1,7 @@
 use mathlib.Core.Path.{_≡_, sym, ap, _∙_}
 use mathlib.Core.Bool.{true}
+use Prim.Native.Nat.{ℕ}
+use mathlib.Core.List.{List}
 use lib.ListN.{length}
 use denote.Ref.{now}
 use borrow.Author.Tests.{not-true, not-false}
@@ -23,10 +25,14 @@ length-is c = sym (c .before .length-good .ensures) ∙ not-false _ (c .if1 .lef
 magic-is : (c : tie.Else2) → magicGood (now (c .before .before .before .before .before .args .img)) ≡ true
 magic-is c = sym (c .before .magic-good .ensures) ∙ not-false _ (c .if2 .left)
 
-version-is : (c : tie.Else3) → versionGood (now (c .before .before .before .before .before .before .before .args .img)) ≡ true
+-- the image, where the version was found good
+abbrev image : tie.Else3 → List ℕ
+image c = now (c .before .before .before .before .before .before .before .args .img)
+
+version-is : (c : tie.Else3) → versionGood (image c) ≡ true
 version-is c = sym (c .before .version-good .ensures) ∙ not-false _ (c .if3 .left)
 
-checksum-is : (c : tie.Else4) → checksumGood (now (c .before .before .before .before .before .before .before .before .before .args .img)) ≡ true
+checksum-is : (c : tie.Else4) → checksumGood (image (c .before .before)) ≡ true
 checksum-is c = sym (c .before .checksum-good .ensures) ∙ not-false _ (c .if4 .left)
 
 magic-good-requires : tie.Need-magic-good-requires
@@ -60,7 +66,7 @@ is-good-requires c κs = search needs
 
 -- the geometry that was tested is the stored one
 tested : (c : tie.After-is-good)
-    → geometryGood (length (now (c .before .before .before .before .before .before .before .before .before .before .before .args .img))) (geometryOf (now (c .before .before .before .before .before .before .before .before .before .before .before .args .img)))
+    → geometryGood (length (image (c .before .before .before .before))) (geometryOf (image (c .before .before .before .before)))
     ≡ c .is-good .result
 tested c = ap (geometryGood _) (sym (c .before .read-geometry .ensures)) ∙ sym (c .is-good .ensures)
 
