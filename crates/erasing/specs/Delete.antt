@@ -83,5 +83,6 @@ module _ (s path : List ℕ) (g : Held) (opened : Opened s g) (h : Head) (found 
     entry-doomed v p b at i =
         let place : slotAt s (geometryView g) (h .slot .0) ≡ at .0 = omega (arith, slot-at s (geometryView g) (h .slot .0)) in (
           omega (arith, entry-within),
-          λ z. delete-done s (volumeOf s (geometryView g)) opened v path z p (headView s h) found b ∙ ap (λ (x : ℕ). wrote (retyped s x (deletedKind (h .kind)) z)) place,
+          λ z. delete-done s (volumeOf s (geometryView g)) opened v path z p (headView s h) found b
+              ∙ ap (λ (x : ℕ). wrote (retyped s x (deletedKind (h .kind)) z)) place,
         )

@@ -1,5 +1,5 @@
 -- Deleted runs cleared one after the other, while the walk goes on behind them.
-use Prim.Native.Nat.{ℕ, _+_, _*_, _≤_}
+use Prim.Native.Nat.{ℕ, _+_, _*_}
 use mathlib.Core.Path.{_≡_, refl, sym, ap, _∙_}
 use mathlib.Core.Bool.{true}
 use mathlib.Core.List.{List, [], _∷_}
@@ -98,7 +98,9 @@ module _ (s : List ℕ) (c : Cursor) (h : Head) (d : Cursor) (step : Step s c h 
   step-clears : Clears s c t d
   step-clears = record {
     place = next-place;
-    rest = λ g p. ap (λ es. cleared isDeleted t g es) (ap entriesOf (items-kept s t d long same)) ∙ sym (front g (head-place g p) (entriesFrom s d)) ∙ sym (ap (cleared isDeleted s g) (step .entries));
+    rest = λ g p. ap (λ es. cleared isDeleted t g es) (ap entriesOf (items-kept s t d long same))
+        ∙ sym (front g (head-place g p) (entriesFrom s d))
+        ∙ sym (ap (cleared isDeleted s g) (step .entries));
   }
 
   pub clears-more : (r : List ℕ) (b : Cursor) → Clears r b s c → Clears r b t d
@@ -145,4 +147,5 @@ module _ (s : List ℕ) (g : Geometry) (z : ℤ) (c : Cursor) (items : itemsFrom
   reclaimed-put good k is t u e clears =
       let f : t ≡ putSizes s (leastSizes s g z) = e ∙ ap (putSizes s) is in
       let p : c .at .0 ≡ slotAt t (leastSizes s g z) (c .slot .0) = rw f (sizes-place s g good (leastSizes s g z) c at (least-index s g z)) in
-      clears (leastSizes s g z) p ∙ rw f (ap (cleared isDeleted (putSizes s (leastSizes s g z)) (leastSizes s g z)) (sizes-entries s g good (leastSizes s g z) c at items))
+      clears (leastSizes s g z) p
+      ∙ rw f (ap (cleared isDeleted (putSizes s (leastSizes s g z)) (leastSizes s g z)) (sizes-entries s g good (leastSizes s g z) c at items))

@@ -11,7 +11,7 @@ use Rattle.rules.specs.Lists.{padded}
 use Rattle.rules.specs.Fields.{splice, signedOf}
 use Rattle.rules.specs.SuperBlock.{blockLength, putSizes}
 use Rattle.rules.specs.Index.{Entry, nameAt, slotAt, slotBytes, runBytes, typeFile, typeDirectory}
-use Rattle.rules.specs.Index.Laws.{continuing-new, continuing-room}
+use Rattle.rules.specs.Index.Laws.{continuing-room}
 use Rattle.rules.specs.Writing.{Site as Placing, kindOf, bytesOf, newEntry, putMarker, created}
 use Rattle.laws.proofs.Index.Slots.{slot-at}
 use Rattle.geometry.specs.View.{geometryView}
@@ -91,7 +91,7 @@ module _ (s : List ℕ) (kind : ℕ) (path bytes : List ℕ) (p : Site) (i : Sit
       rw is (
         omega (arith, i .run, i .indexFits),
         omega (arith, i .slots),
-        omega (arith, i .slots, continuing-new kind (length path) (i .pathShort)),
+        omega (arith, i .few),
         omega (arith, i .slots, continuing-room kind (length path) .1),
       )
 

@@ -57,7 +57,7 @@ pub record SiteIn (s : List ℕ) (kind : ℕ) (path bytes : List ℕ) (p : Placi
   pub indexLow : 128 ≤ p .new .indexBytes
   pub indexFits : p .new .indexBytes ≤ length s
   pub slots : p .slots ≡ 1 + continuing kind (length path)
-  pub pathShort : length path ≤ 285
+  pub few : p .slots ≤ 5
   pub run : slotBytes * (p .slot + p .slots) ≤ p .new .indexBytes
   pub blocks : BlocksIn (length s) p (length bytes)
 

@@ -8,6 +8,7 @@ ghost use mathlib.Core.Path.{_≡_};
 ghost use Prim.Native.Nat.{_*_, _≤_};
 ghost use lib.ListN.{length};
 ghost use Rattle.rules.specs.Fields.{signedOf};
+ghost use Rattle.rules.specs.Index.{slotBytes};
 ghost use Rattle.rules.specs.Writing.{created};
 ghost use Rattle.placing.specs.Site.{newOf, siteView, BlocksIn, SiteIn, NewIn};
 ghost use Rattle.placing.specs.Placed.{blocksImage, siteHead, siteImage};
@@ -40,7 +41,7 @@ fn put_blocks(img: &mut [u8], p: Site, bytes: &[u8])
 
 // The head of the run, in an image of `len` bytes.
 fn head_of(len: u64, p: Site, kind: u8, bytes: u64, stamp: u64) -> Head
-    requires { ⌜ (len ≤ 16_777_216) × (p .new .index ≤ len) × (64 * p .slot .0 ≤ p .new .index) ⌝ }
+    requires { ⌜ (len ≤ 16_777_216) × (p .new .index ≤ len) × (slotBytes * p .slot .0 ≤ p .new .index) ⌝ }
     ensures { λ r. ⌜ r ≡ siteHead len p kind bytes stamp ⌝ }
 {
     let index = units::index_start(len, p.new.index);

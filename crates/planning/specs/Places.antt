@@ -13,7 +13,7 @@ use borrow.Author.Tests.{le-leb, lt-leb, eq-eqb}
 use Rattle.rules.specs.Lists.Laws.{pick-true, pick-false, and-right}
 use Rattle.rules.specs.SuperBlock.{Geometry, mostIndexBytes, indexGood, blockLength, ceilingBlock, dataEnd, growIndex, withIndex, extendData, restamp}
 use Rattle.rules.specs.SuperBlock.Laws.{GoodGeometry, reserved-pos}
-use Rattle.rules.specs.Index.{Entry, itemsOf}
+use Rattle.rules.specs.Index.{Entry, itemsOf, slotBytes}
 use Rattle.rules.specs.Regions.{lowestFree}
 use Rattle.rules.specs.Refusals.{Volume}
 use Rattle.rules.specs.Writing.{Site as Placing, Place, mayGrow, grownPlace, placeFrom, placeRun, placeFile, lowestUnused}
@@ -72,12 +72,15 @@ module _ (n : ℕ) (h : Geometry) where
   areas-grow low slots reserved = by (decLt n (h .indexBytes))
     where
       by : Dec (n < h .indexBytes) → areasFit n h ≡ mayGrow n h
-      by (yes l) = let f = none-below l reserved in and-right (indexGood (h .indexBytes) && leb (h .indexBytes) n) _ f ∙ sym (and-right (leb (h .indexBytes) mostIndexBytes) _ f)
+      by (yes l) =
+          let f = none-below l reserved in
+          and-right (indexGood (h .indexBytes) && leb (h .indexBytes) n) _ f ∙ sym (and-right (leb (h .indexBytes) mostIndexBytes) _ f)
       by (no l) =
-          both-pass (leb 128 (h .indexBytes)) (leb (h .indexBytes) mostIndexBytes) (eqb (h .indexBytes % 64) 0) (leb (h .indexBytes) n) (leb (dataEnd h) (ceilingBlock n h))
+          both-pass (leb 128 (h .indexBytes)) (leb (h .indexBytes) mostIndexBytes) (eqb (h .indexBytes % 64) 0) (leb (h .indexBytes) n)
+          (leb (dataEnd h) (ceilingBlock n h))
           (le-leb 128 (h .indexBytes) low) (eq-eqb (h .indexBytes % 64) 0 slots) (le-leb (h .indexBytes) n (omega arith))
 
-module _ (n : ℕ) (g : Geometry) (good : GoodGeometry n g) (k : ℕ) (h : Geometry) (is : h ≡ growIndex g (64 * k)) where
+module _ (n : ℕ) (g : Geometry) (good : GoodGeometry n g) (k : ℕ) (h : Geometry) (is : h ≡ growIndex g (slotBytes * k)) where
   pub grown-field : h .blockField ≤ 5
   unfolding growIndex withIndex
   grown-field = omega (arith, ap (λ (x : Geometry). x .blockField) is, good .field-high)
@@ -85,15 +88,15 @@ module _ (n : ℕ) (g : Geometry) (good : GoodGeometry n g) (k : ℕ) (h : Geome
   grown-fits : areasFit n h ≡ mayGrow n h
   unfolding growIndex withIndex
   grown-fits =
-      let i : h .indexBytes ≡ g .indexBytes + 64 * k = ap (λ (x : Geometry). x .indexBytes) is in
+      let i : h .indexBytes ≡ g .indexBytes + slotBytes * k = ap (λ (x : Geometry). x .indexBytes) is in
       let r : h .reserved ≡ g .reserved = ap (λ (x : Geometry). x .reserved) is in
       areas-grow n h (omega (arith, good .index-low)) (omega (arith, good .index-slots)) (omega (arith, reserved-pos n g good))
 
-  pub grown-not : areasFit n h ≡ false → none ≡ grownPlace n (growIndex g (64 * k))
+  pub grown-not : areasFit n h ≡ false → none ≡ grownPlace n (growIndex g (slotBytes * k))
   unfolding grownPlace
   grown-not e = rw (← is) (sym (pick-false _ _ (sym grown-fits ∙ e)))
 
-  pub grown-at : areasFit n h ≡ true → (slot : ℕ) → slot ≡ 1 → some (record { slot = slot; geometry = h }) ≡ grownPlace n (growIndex g (64 * k))
+  pub grown-at : areasFit n h ≡ true → (slot : ℕ) → slot ≡ 1 → some (record { slot = slot; geometry = h }) ≡ grownPlace n (growIndex g (slotBytes * k))
   unfolding grownPlace
   grown-at e slot first = rw (← is, first) (sym (pick-true _ _ (sym grown-fits ∙ e)))
 
@@ -103,7 +106,7 @@ module _ (n : ℕ) (v : Volume) (slots : ℕ) where
   unfolding placeRun placeFrom
   place-unused k e = rw e
 
-  pub place-grown : lowestUnused slots (v .items) ≡ none → placeRun n v slots ≡ grownPlace n (growIndex (v .geometry) (64 * slots))
+  pub place-grown : lowestUnused slots (v .items) ≡ none → placeRun n v slots ≡ grownPlace n (growIndex (v .geometry) (slotBytes * slots))
   unfolding placeRun placeFrom
   place-grown e = rw e
 

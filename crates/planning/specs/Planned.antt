@@ -129,7 +129,8 @@ module _ (s : List ℕ) (g : Held) (opened : Opened s g) where
       pub run-grown : Grown (length s) (geometryView g) (q .geometry)
       run-grown = place-grown (length s) v (newSlots new path) q (o .geometry-good) run-placed
 
-      pub planned-blocks : (stamp : ℤ) → placeFile (length s) (q .geometry) (entries v) (newBlocks (geometryView g) new) ≡ none → Planned s new path stamp (Refused 16)
+      pub planned-blocks : (stamp : ℤ) → placeFile (length s) (q .geometry) (entries v) (newBlocks (geometryView g) new) ≡ none
+          → Planned s new path stamp (Refused 16)
       unfolding Planned
       planned-blocks stamp b = create-blocks s v opened (passed .current) new path stamp (passed .named) (passed .absent) (passed .nearest) q r b
 
@@ -162,7 +163,7 @@ module _ (s : List ℕ) (g : Held) (opened : Opened s g) where
               indexLow = sizes .good .index-low;
               indexFits = sizes .good .index-fits;
               slots = refl;
-              pathShort = new-path path (passed .named) .1;
+              few = few-slots;
               run = omega (arith, inside .high, sizes .index-same);
               blocks = record {
                 field = sizes .good .field-high;

@@ -15,6 +15,7 @@ ghost use lib.ListN.{length};
 ghost use Rattle.rules.specs.Fields.{signedOf};
 ghost use Rattle.rules.specs.SuperBlock.{growIndex};
 ghost use Rattle.rules.specs.SuperBlock.Laws.{GoodGeometry};
+ghost use Rattle.rules.specs.Index.{slotBytes};
 ghost use Rattle.rules.specs.Writing.{newSlots, newBlocks, grownPlace, placeRun, placeFile};
 ghost use Rattle.geometry.specs.View.{geometryView};
 ghost use Rattle.index.specs.Steps.{Walks, entriesFrom};
@@ -35,7 +36,7 @@ pub enum RunPlace {
 // Slot 1 of an index that is n slots larger, if it may grow so in an image of `len` bytes.
 fn grown_place(len: u64, g: Geometry, n: u64) -> RunPlace
     requires { ⌜ GoodGeometry len (geometryView g) × (n ≤ 5) ⌝ }
-    ensures { λ r. ⌜ placeView r ≡ grownPlace len (growIndex (geometryView g) (64 * n)) ⌝ }
+    ensures { λ r. ⌜ placeView r ≡ grownPlace len (growIndex (geometryView g) (slotBytes * n)) ⌝ }
 {
     let grown = g.grow_index(units::SLOT_BYTES * n);
     if !grown.areas_fit(len) {

@@ -32,7 +32,8 @@ same-length-2 c = search needs
 
 returns-2 : tie.Need-returns-2
 unfolding done
-returns-2 c = ap wrote (c .before .before .place .ensures) ∙ sym (plan-at _ _ _ _ _ (c .before .before .before .before .before .before .before .plan-create .ensures) _ (c .before .before .before .before .before .p .given .1) .0)
+returns-2 c = let p = c .before .before .before .before .before in
+    ap wrote (c .before .before .place .ensures) ∙ sym (plan-at _ _ _ _ _ (p .before .before .plan-create .ensures) _ (p .p .given .1) .0)
 
 pub create-spec : {M : Type 1} → statement M
 create-spec =

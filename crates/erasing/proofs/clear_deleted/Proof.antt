@@ -27,12 +27,13 @@ same-length : tie.Need-same-length Inv-loop μ-loop
 same-length c = c .before .before .before .before .loop .inv .2
 
 returns : tie.Need-returns Inv-loop μ-loop
-returns c = clears-all _ _ _ _ (c .before .before .before .before .loop .inv .1) (told-end _ _ _ (c .before .before .next-entry .ensures) (c .enum-told .given .1))
+returns c = clears-all _ _ _ _ (c .before .before .before .before .loop .inv .1)
+    (told-end _ _ _ (c .before .before .next-entry .ensures) (c .enum-told .given .1))
 
 enum-known-h : tie.Need-enum-known-h Inv-loop μ-loop
 enum-known-h c = search needs
 
-step : (c : tie.After-h Inv-loop μ-loop) → Step (c .before .before .before .before .loop .img) (c .before .before .before .before .loop .c) (c .h .given .0 .0) (c .h .given .0 .1 .0)
+step : (c : tie.After-h Inv-loop μ-loop) → let l = c .before .before .before .before .loop in Step (l .img) (l .c) (c .h .given .0 .0) (c .h .given .0 .1 .0)
 step c = told-found _ _ _ (c .before .before .next-entry .ensures) _ _ (c .h .given .1)
 
 clear-head-requires : tie.Need-clear-head-requires Inv-loop μ-loop
@@ -42,8 +43,10 @@ loop-less : tie.Need-loop-less Inv-loop μ-loop
 loop-less c = step (c .before .before .before .before .before) .less
 
 loop-again : tie.Need-loop-again Inv-loop μ-loop
-loop-again c = let l = c .before .before .before .before .before .before .before .before .before .loop in
-    (step-walks _ _ _ _ (step (c .before .before .before .before .before)) _ (c .before .before .clear-head .ensures), clears-more _ _ _ _ (step (c .before .before .before .before .before)) _ (c .before .before .clear-head .ensures) _ _ (l .inv .1), omega (arith, l .inv .2, c .before .before .clear-head .kept))
+loop-again c = let t = c .before .before .clear-head in
+    let h = c .before .before .before .before .before in
+    let l = h .before .before .before .before .loop in
+    (step-walks _ _ _ _ (step h) _ (t .ensures), clears-more _ _ _ _ (step h) _ (t .ensures) _ _ (l .inv .1), omega (arith, l .inv .2, t .kept))
 
 pub clear-deleted-spec : {M : Type 1} → statement M
 clear-deleted-spec =

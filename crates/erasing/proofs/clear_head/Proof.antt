@@ -16,7 +16,8 @@ same-length c = search needs
 
 returns : tie.Need-returns
 unfolding headCleared
-returns c = c .before .before .clear-run .ensures ∙ sym (pick-true _ _ (sym (c .before .before .before .before .before .is-deleted .ensures) ∙ c .before .before .before .before .if1 .taken))
+returns c = let i = c .before .before .before .before in
+    c .before .before .clear-run .ensures ∙ sym (pick-true _ _ (sym (i .before .is-deleted .ensures) ∙ i .if1 .taken))
 
 returns-2 : tie.Need-returns-2
 unfolding headCleared

@@ -21,7 +21,8 @@ deleted-kind-requires : tie.Need-deleted-kind-requires
 deleted-kind-requires c κs = search needs
 
 retype-requires : tie.Need-retype-requires
-retype-requires c κs = doomed-within _ _ _ (c .before .before .before .before .before .plan-delete .ensures) _ _ (c .before .before .before .at .given .1)
+retype-requires c κs = let a = c .before .before .before in
+    doomed-within _ _ _ (a .before .before .plan-delete .ensures) _ _ (a .at .given .1)
 
 same-length : tie.Need-same-length
 same-length c = search needs

@@ -102,13 +102,15 @@ offset-requires c κs = let k = passed (c .before) in
 returns-4 : tie.Need-returns-4
 unfolding Doomed
 returns-4 c z = let f = c .before .before .before in
-    delete-none _ _ (begun f .pre) (current (f .before .before .before)) _ z (good (f .before)) (ap (lookup _) (sym (entries-are f)) ∙ searched-nothing _ _ _ (c .before .before .lookup .ensures) (c .enum-told .given .1))
+    delete-none _ _ (begun f .pre) (current (f .before .before .before)) _ z (good (f .before))
+    (ap (lookup _) (sym (entries-are f)) ∙ searched-nothing _ _ _ (c .before .before .lookup .ensures) (c .enum-told .given .1))
 
 returns-5 : tie.Need-returns-5
 returns-5 c = let e = c .before .before in
     let k = passed e in
     let f = sought k in
-    entry-doomed _ _ _ (begun f .pre) _ (found k) _ (c .before .index-start .ensures) (current (f .before .before .before)) (good (f .before)) (below (e .before) ∙ e .if3 .left) _ (c .offset .ensures .0)
+    entry-doomed _ _ _ (begun f .pre) _ (found k) _ (c .before .index-start .ensures)
+    (current (f .before .before .before)) (good (f .before)) (below (e .before) ∙ e .if3 .left) _ (c .offset .ensures .0)
 
 pub plan-entry-spec : {M : Type 1} → statement M
 plan-entry-spec =

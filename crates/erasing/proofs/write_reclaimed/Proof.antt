@@ -50,7 +50,8 @@ returns c = let r = c .before .before in
     let f = begun l in
     let e = f .first-slot .ensures in
     reclaimed-put _ _ _ _ (e .0) (e .2) (opened-super _ _ (first f .pre) .good) _
-    (sizes-are _ _ _ _ (e .0) (e .2) _ _ _ (l .before .before .last-end .ensures) (l .before .trim-data .ensures) (l .restamp .ensures)) _ _ (p .put-sizes .ensures) (r .clear-deleted .ensures)
+    (sizes-are _ _ _ _ (e .0) (e .2) _ _ _ (l .before .before .last-end .ensures) (l .before .trim-data .ensures) (l .restamp .ensures))
+    _ _ (p .put-sizes .ensures) (r .clear-deleted .ensures)
 
 pub write-reclaimed-spec : {M : Type 1} → statement M
 write-reclaimed-spec =

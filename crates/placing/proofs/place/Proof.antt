@@ -8,14 +8,16 @@ use Rattle.placing.proofs.place.Tie as tie
 
 put-new-requires : tie.Need-put-new-requires
 put-new-requires c κs = let x = c .before .before .before .before .before in
-    rw (kind-file _ (now (x .args .bytes)) (c .before .if1 .taken), bytes-file _ (now (x .args .bytes)) (c .before .if1 .taken)) at (x .pre)
+    let e = c .before .if1 .taken in
+    rw (kind-file _ (now (x .args .bytes)) e, bytes-file _ (now (x .args .bytes)) e) at (x .pre)
 
 slice-aggregate-put-new : tie.Need-slice-aggregate-put-new
 slice-aggregate-put-new c = search needs
 
 put-new-requires-2 : tie.Need-put-new-requires-2
 put-new-requires-2 c κs = let x = c .before .before .before .before .before .before in
-    rw (kind-directory _ (now (x .args .bytes)) (c .before .before .if1 .left), bytes-directory _ (now (x .args .bytes)) (c .before .before .if1 .left)) at (x .pre)
+    let e = c .before .before .if1 .left in
+    rw (kind-directory _ (now (x .args .bytes)) e, bytes-directory _ (now (x .args .bytes)) e) at (x .pre)
 
 same-length : tie.Need-same-length
 same-length c = search needs

@@ -35,7 +35,8 @@ returns c = let w = c .before .before in
     let e = w .before .before in
     let b = e .before .before in
     let x = b .before .before .before in
-    blocks-put (siteView (x .args .p)) _ (b .block-length .ensures .0) _ _ (now (x .args .bytes)) _ _ (x .pre .1 .ordered) (e .before .offset .ensures .0) (e .offset2 .ensures .0) (w .write-part .ensures)
+    blocks-put (siteView (x .args .p)) _ (b .block-length .ensures .0) _ _ (now (x .args .bytes)) _ _ (x .pre .1 .ordered)
+    (e .before .offset .ensures .0) (e .offset2 .ensures .0) (w .write-part .ensures)
 
 pub put-blocks-spec : {M : Type 1} → statement M
 put-blocks-spec =

@@ -15,13 +15,15 @@ blocks-needed-requires : tie.Need-blocks-needed-requires
 blocks-needed-requires c κs = search needs
 
 returns : tie.Need-returns
-returns c = c .blocks-needed .ensures ∙ ap₂ blocksNeeded (c .before .before .block-length .ensures .0) (sym (ap (λ (x : List ℕ). length x) (bytes-file _ _ (c .before .if1 .taken))))
+returns c = c .blocks-needed .ensures
+    ∙ ap₂ blocksNeeded (c .before .before .block-length .ensures .0) (sym (ap (λ (x : List ℕ). length x) (bytes-file _ _ (c .before .if1 .taken))))
 
 blocks-needed-requires-2 : tie.Need-blocks-needed-requires-2
 blocks-needed-requires-2 c κs = search needs
 
 returns-2 : tie.Need-returns-2
-returns-2 c = c .blocks-needed2 .ensures ∙ ap₂ blocksNeeded (c .before .before .block-length .ensures .0) (sym (ap (λ (x : List ℕ). length x) (bytes-directory _ _ (c .before .if1 .left))))
+returns-2 c = c .blocks-needed2 .ensures
+    ∙ ap₂ blocksNeeded (c .before .before .block-length .ensures .0) (sym (ap (λ (x : List ℕ). length x) (bytes-directory _ _ (c .before .if1 .left))))
 
 pub blocks-for-spec : {M : Type 1} → statement M
 blocks-for-spec =

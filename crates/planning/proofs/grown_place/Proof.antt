@@ -1,7 +1,6 @@
-use mathlib.Core.Path.{_≡_, sym, ap, _∙_}
+use mathlib.Core.Path.{sym, _∙_}
 use native.Mathlib.Omega.{arith}
 use borrow.Author.Tests.{not-true, not-false}
-use Rattle.geometry.specs.View.{geometryView, areasFit}
 use Rattle.planning.specs.Places.{grown-field, grown-not, grown-at}
 use borrow.Author.Needs.{needs}
 use Rattle.planning.proofs.grown_place.Statement.{statement}

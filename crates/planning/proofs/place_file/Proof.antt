@@ -23,7 +23,8 @@ lowest-free-requires c κs = search needs
 
 returns-2 : tie.Need-returns-2
 returns-2 c = let d = c .before in
-    c .lowest-free .ensures ∙ ap₂ (lowestFree _ _) (d .data-start .ensures) (d .before .ceiling .ensures) ∙ sym (place-blocks _ _ _ _ (d .before .before .if1 .left))
+    c .lowest-free .ensures ∙ ap₂ (lowestFree _ _) (d .data-start .ensures) (d .before .ceiling .ensures)
+    ∙ sym (place-blocks _ _ _ _ (d .before .before .if1 .left))
 
 pub place-file-spec : {M : Type 1} → statement M
 place-file-spec =

@@ -17,15 +17,17 @@ enum-told : tie.Need-enum-told
 enum-told c = search needs
 
 grown-place-requires : tie.Need-grown-place-requires
-grown-place-requires c κs = (opened-super _ _ (c .before .before .before .before .pre .0) .good, c .before .before .before .before .pre .3)
+grown-place-requires c κs = let p = c .before .before .before .before .pre in (opened-super _ _ (p .0) .good, p .3)
 
 returns : tie.Need-returns
 returns c = let p = c .before .before .before .before .before .pre in
-    sym (place-unused _ _ _ _ (ap (lowestUnused _) (sym (p .1 .0)) ∙ sym (c .before .before .before .lowest-unused .ensures) ∙ ap unusedView (c .before .slot .given .1)))
+    sym (place-unused _ _ _ _
+    (ap (lowestUnused _) (sym (p .1 .0)) ∙ sym (c .before .before .before .lowest-unused .ensures) ∙ ap unusedView (c .before .slot .given .1)))
 
 returns-2 : tie.Need-returns-2
 returns-2 c = let p = c .before .before .before .before .before .pre in
-    c .grown-place .ensures ∙ sym (place-grown _ _ _ (ap (lowestUnused _) (sym (p .1 .0)) ∙ sym (c .before .before .before .lowest-unused .ensures) ∙ ap unusedView (c .before .enum-told .given .1)))
+    c .grown-place .ensures ∙ sym (place-grown _ _ _
+    (ap (lowestUnused _) (sym (p .1 .0)) ∙ sym (c .before .before .before .lowest-unused .ensures) ∙ ap unusedView (c .before .enum-told .given .1)))
 
 pub place-run-spec : {M : Type 1} → statement M
 place-run-spec =

@@ -84,13 +84,15 @@ nearest-live-requires c κs = walks (looked c)
 returns-4 : tie.Need-returns-4
 returns-4 c = let e = c .before .before in
     let f = looked e in
-    planned-orphan _ _ (begun f .pre) _ _ _ (current (f .before .before .before)) (named (f .before)) (absent e) (nearest (c .before) ∙ not-true _ (c .if4 .taken))
+    planned-orphan _ _ (begun f .pre) _ _ _ (current (f .before .before .before)) (named (f .before)) (absent e)
+    (nearest (c .before) ∙ not-true _ (c .if4 .taken))
 
 plan-places-requires : tie.Need-plan-places-requires
 plan-places-requires c κs = let e = c .before .before in
     let f = looked e in
     let o = begun f .pre in
-    (o, (f .first-slot .ensures .0, f .first-slot .ensures .1), admitted _ _ o _ (current (f .before .before .before)) (named (f .before)) (absent e) (nearest (c .before) ∙ not-false _ (c .if4 .left)))
+    let a = admitted _ _ o _ (current (f .before .before .before)) (named (f .before)) (absent e) (nearest (c .before) ∙ not-false _ (c .if4 .left)) in
+    (o, (f .first-slot .ensures .0, f .first-slot .ensures .1), a)
 
 returns-5 : tie.Need-returns-5
 returns-5 c = search needs

@@ -8,7 +8,10 @@ use Rattle.rules.specs.Refusals.{Volume, entries}
 use Rattle.geometry.specs.View.{geometryView}
 use Rattle.judging.specs.View.{volumeOf, opened-super, opened-walks, opened-entries}
 use Rattle.placing.specs.Site.{newOf}
-use Rattle.planning.specs.Places.{run-says, file-says}
+use Rattle.free_runs.specs.declared.Free.{Free}
+use Rattle.free_runs.specs.View.{freeView}
+use Rattle.planning.specs.declared.RunPlace.{RunPlace}
+use Rattle.planning.specs.Places.{placeView, run-says, file-says}
 use Rattle.planning.specs.Planned.{few-slots, run-grown, end-fits, planned-slots, planned-blocks, planned-at}
 use borrow.Author.Needs.{needs}
 use Rattle.planning.proofs.plan_places.Statement.{statement}
@@ -36,17 +39,22 @@ slots-are : (c : tie.After-slots-for) → c .slots-for .result ≡ newSlots (mad
 slots-are c = c .slots-for .ensures (now (first c .args .bytes))
 
 -- its place
+run-is : (c : tie.After-place-run) (r : RunPlace) → c .place-run .result ≡ r → let x = first (c .before) in
+    placeRun (length (now (x .args .img))) (volume x) (newSlots (made x) (now (x .args .path))) ≡ placeView r
+run-is c r e = run-says _ _ _ _ _ (c .place-run .ensures) e _ (slots-are (c .before))
+
 run-said : (c : tie.After-slot) → let x = first (sized c) in
     placeRun (length (now (x .args .img))) (volume x) (newSlots (made x) (now (x .args .path)))
     ≡ some (record { slot = c .slot .given .0 .0 .0; geometry = geometryView (c .slot .given .0 .1 .0) })
-run-said c = run-says _ _ _ _ _ (c .before .before .place-run .ensures) (c .slot .given .1) _ (slots-are (sized c))
+run-said c = run-is (c .before .before) _ (c .slot .given .1)
 
 -- the place of the blocks
-file-said : (c : tie.After-start) → let x = first (sized (slotted c)) in
-    placeFile (length (now (x .args .img))) (geometryView (slotted c .slot .given .0 .1 .0)) (entries (volume x)) (newBlocks (geometryView (x .args .g)) (made x))
-    ≡ some (c .start .given .0 .0 .0)
-file-said c = let x = first (sized (slotted c)) in
-    file-says _ _ _ _ _ _ (c .before .before .place-file .ensures) (c .start .given .1) _ (opened-entries _ _ (x .pre .0) (x .args .from) (x .pre .1 .0)) _ (c .before .before .before .blocks-for .ensures)
+file-is : (c : tie.After-place-file) (r : Free) → c .place-file .result ≡ r → let s = c .before .before .before in
+    let x = first (sized s) in
+    placeFile (length (now (x .args .img))) (geometryView (s .slot .given .0 .1 .0)) (entries (volume x)) (newBlocks (geometryView (x .args .g)) (made x))
+    ≡ freeView r
+file-is c r e = let x = first (sized (c .before .before .before)) in
+    file-says _ _ _ _ _ _ (c .place-file .ensures) e _ (opened-entries _ _ (x .pre .0) (x .args .from) (x .pre .1 .0)) _ (c .before .blocks-for .ensures)
 
 slots-for-requires : tie.Need-slots-for-requires
 slots-for-requires c κs = search needs
@@ -79,24 +87,26 @@ enum-known-start c = search needs
 site-at-requires : tie.Need-site-at-requires
 site-at-requires c κs = let b = c .before in
     let x = first (sized (slotted b)) in
-    omega (arith, end-fits _ _ (x .pre .0) _ _ (x .pre .2) _ (run-said (slotted b)) _ (file-said b), b .before .before .before .blocks-for .ensures)
+    let f = b .before .before in
+    omega (arith, end-fits _ _ (x .pre .0) _ _ (x .pre .2) _ (run-said (slotted b)) _ (file-is f _ (b .start .given .1)), f .before .blocks-for .ensures)
 
 returns : tie.Need-returns
-returns c = let p = c .before .before .before in
-    let x = first p in
-    planned-slots _ _ (x .pre .0) _ _ (x .pre .2) _ (run-says _ _ _ _ _ (c .before .before .place-run .ensures) (c .enum-told .given .1) _ (slots-are p))
+returns c = let p = c .before .before in
+    let x = first (p .before) in
+    planned-slots _ _ (x .pre .0) _ _ (x .pre .2) _ (run-is p _ (c .enum-told .given .1))
 
 returns-2 : tie.Need-returns-2
 returns-2 c = let s = c .before .before .before .before .before in
     let x = first (sized s) in
-    planned-blocks _ _ (x .pre .0) _ _ (x .pre .2) _ (run-said s) _
-    (file-says _ _ _ _ _ _ (c .before .before .place-file .ensures) (c .enum-told2 .given .1) _ (opened-entries _ _ (x .pre .0) (x .args .from) (x .pre .1 .0)) _ (c .before .before .before .blocks-for .ensures))
+    planned-blocks _ _ (x .pre .0) _ _ (x .pre .2) _ (run-said s) _ (file-is (c .before .before) _ (c .enum-told2 .given .1))
 
 returns-3 : tie.Need-returns-3
 returns-3 c = let b = c .before .before in
+    let f = b .before .before in
     let s = slotted b in
     let x = first (sized s) in
-    planned-at _ _ (x .pre .0) _ _ (x .pre .2) _ (run-said s) _ (file-said b) _ _ _ (slots-are (sized s)) (b .before .before .before .blocks-for .ensures) _ (c .site-at .ensures)
+    planned-at _ _ (x .pre .0) _ _ (x .pre .2) _ (run-said s) _ (file-is f _ (b .start .given .1)) _ _ _
+    (slots-are (sized s)) (f .before .blocks-for .ensures) _ (c .site-at .ensures)
 
 pub plan-places-spec : {M : Type 1} → statement M
 plan-places-spec =

@@ -12,13 +12,15 @@ run-slots-requires : tie.Need-run-slots-requires
 run-slots-requires c κs = search needs
 
 returns : tie.Need-returns
-returns c = λ bytes. c .run-slots .ensures ∙ ap (λ (t : ℕ). 1 + continuing t (length (now (c .before .before .before .args .path)))) (sym (kind-file _ bytes (c .before .if1 .taken)))
+returns c = let n = length (now (c .before .before .before .args .path)) in
+    λ bytes. c .run-slots .ensures ∙ ap (λ (t : ℕ). 1 + continuing t n) (sym (kind-file _ bytes (c .before .if1 .taken)))
 
 run-slots-requires-2 : tie.Need-run-slots-requires-2
 run-slots-requires-2 c κs = search needs
 
 returns-2 : tie.Need-returns-2
-returns-2 c = λ bytes. c .run-slots2 .ensures ∙ ap (λ (t : ℕ). 1 + continuing t (length (now (c .before .before .before .args .path)))) (sym (kind-directory _ bytes (c .before .if1 .left)))
+returns-2 c = let n = length (now (c .before .before .before .args .path)) in
+    λ bytes. c .run-slots2 .ensures ∙ ap (λ (t : ℕ). 1 + continuing t n) (sym (kind-directory _ bytes (c .before .if1 .left)))
 
 pub slots-for-spec : {M : Type 1} → statement M
 slots-for-spec = tie.close (tie.spec run-slots-requires returns run-slots-requires-2 returns-2)
