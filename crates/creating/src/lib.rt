@@ -1,7 +1,6 @@
 // The call create: planned first, then written at one place, so that a refusal cannot have written.
 
 use planning::Plan;
-ghost use mathlib.Core.Path.{_≡_};
 ghost use Rattle.rules.specs.Fields.{signedOf};
 ghost use Rattle.contracts.specs.Contracts.{Creates};
 ghost use Rattle.placing.specs.Site.{newOf};

@@ -1,7 +1,7 @@
 -- DEMAND 3 OF THE CODE, proved: an answer that meets its contract is the definitions' step, so a run leaves the image of which demand 3
 -- speaks, and tells the history the same. Assumes nothing.
 use Prim.Native.Nat.{ℕ, _+_, _≤_}
-use mathlib.Core.Path.{_≡_, refl, sym, ap, ap₂, _∙_}
+use mathlib.Core.Path.{_≡_, refl, sym, ap, _∙_}
 use mathlib.Core.List.{List, [], _∷_, _++_, map, append-assoc}
 use lib.ListN.{length, length-map}
 use borrow.Author.Tests.{le-leb}
@@ -14,13 +14,13 @@ use Rattle.rules.specs.Outcome.{Outcome, done}
 use Rattle.rules.specs.Writing.{formatOf}
 use Rattle.rules.specs.Text.{text}
 use Rattle.rules.specs.Listing.{listingOf, volumeText, linesOf, countLine}
-use Rattle.rules.specs.History.{Call, format, openVolume, find, list, read, create, delete, reclaim, Passed, passed, step, Kept, History, nothing, fed, feed, run, told, nameOfEntry, nameOfKept, Holds, ReadsBack}
+use Rattle.rules.specs.History.{Call, format, openVolume, find, list, read, create, delete, reclaim, Passed, passed, step, History, nothing, fed, feed, run, told, nameOfEntry, nameOfKept, Holds, ReadsBack}
 use Rattle.contracts.specs.Contracts.{Reads, WritesListing, textAs}
 use Rattle.contracts.specs.Contracts.Laws.{text-done}
 use Rattle.contracts.specs.declared.Content.{Content}
 use Rattle.laws.proofs.Lists.Every.{all-weaken}
 use Rattle.laws.proofs.Lists.Perms.{perm-length}
-use Rattle.demand3.specs.Runs.{passedAs, Answered, Served, Run, toldOf, BytesBack, TellsCounts, ListingCounts, HeldByCode, Demand3OfCode}
+use Rattle.demand3.specs.Runs.{passedAs, Answered, Served, Run, toldOf, BytesBack, ListingCounts, Demand3OfCode}
 use Rattle.demand3.proofs.Theorem.{demand3}
 
 -- ---- an answer is the definitions' step

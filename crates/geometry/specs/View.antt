@@ -1,14 +1,14 @@
 -- The code's geometry in the rules' words, and the last tests of a good one under a name of their own.
 use Prim.Native.Nat.{ℕ, _*_, _/_, _%_, _<_}
-use mathlib.Core.Path.{_≡_, refl, sym, _∙_}
+use mathlib.Core.Path.{_≡_, sym, _∙_}
 use native.Mathlib.Omega.{arith}
 use native.Mathlib.Nat.{mul-mod-left, div-add-mod', div-eq-of-eq-mul-left}
 use native.Mathlib.Decide.{ℕ-discrete}
 use borrow.Author.Tests.{eq-eqb, ne-eqb}
-use mathlib.Core.Bool.{Bool, true, false, _&&_}
+use mathlib.Core.Bool.{Bool, false, _&&_}
 use lib.Dec.{eqb, leb}
 use Rattle.rules.specs.Fields.{signedOf}
-use Rattle.rules.specs.SuperBlock.{Geometry, geometryGood, indexGood, blockLength, dataEnd, ceilingBlock}
+use Rattle.rules.specs.SuperBlock.{Geometry, indexGood, dataEnd, ceilingBlock}
 use Rattle.geometry.specs.declared.Geometry.{Geometry as Held}
 
 abbrev pub geometryView : Held → Geometry

@@ -3,7 +3,6 @@
 use units::Block;
 ghost use mathlib.Core.Path.{_≡_};
 ghost use Prim.Native.Nat.{_+_, _*_, _≤_, _<_, _^_};
-ghost use mathlib.Core.Bool.{true};
 ghost use lib.Dec.{eqb};
 ghost use Rattle.rules.specs.SuperBlock.{blockLength, dataEnd, ceilingBlock, writable, indexGood, geometryGood, growIndex, extendData, trimData, withStamp, restamp};
 ghost use Rattle.rules.specs.Fields.{signedOf};

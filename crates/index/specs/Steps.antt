@@ -1,11 +1,11 @@
 -- From entry to entry: what a step of the walk says.
 use Prim.Native.Nat.{ℕ, _+_, _-_, _*_, _≤_, _<_}
 use mathlib.Core.Path.{_≡_, refl, sym, ap, _∙_}
-use mathlib.Core.Bool.{Bool, true, false}
+use mathlib.Core.Bool.{true, false}
 use mathlib.Core.List.{List, [], _∷_}
 use native.Mathlib.Omega.{arith}
-use lib.ListN.{length, getD, drop}
-use Rattle.rules.specs.Index.{Entry, Item, entry, unused, itemAt, entriesOf, slotBytes}
+use lib.ListN.{getD, drop}
+use Rattle.rules.specs.Index.{Entry, entry, unused, itemAt, entriesOf, slotBytes}
 use Rattle.rules.specs.Index.Walk.{walkAll, slotsOf, walk-none}
 use Rattle.rules.specs.Index.Items.{faultless, headOf, entryType, Stands, sound-entry, sound-unused, rest-sound, entries-entry, entries-unused, type-drop}
 use Rattle.slots.specs.declared.Head.{Head}

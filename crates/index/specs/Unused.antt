@@ -1,5 +1,5 @@
 -- The lowest unused slots that hold a run, taken one slot further.
-use Prim.Native.Nat.{ℕ, zero, suc, _+_, _-_, _*_, _≤_, _<_}
+use Prim.Native.Nat.{ℕ, zero, suc, _+_, _-_, _≤_, _<_}
 use mathlib.Core.Path.{_≡_, refl, sym, ap, _∙_}
 use mathlib.Core.Bool.{Bool, true, false}
 use mathlib.Core.List.{List, [], _∷_, _++_}
@@ -9,7 +9,7 @@ use lib.ListN.{getD, drop}
 use Rattle.rules.specs.Lists.{firstIf}
 use Rattle.rules.specs.Index.{Entry, Item, unused, entry}
 use Rattle.rules.specs.Index.Laws.{unusedFrom}
-use Rattle.rules.specs.Index.Walk.{walkAll, walk-none, walk-unused, walk-entry}
+use Rattle.rules.specs.Index.Walk.{walk-none, walk-unused, walk-entry}
 use Rattle.rules.specs.Index.Items.{headOf, entryType, type-drop, sound-entry}
 use Rattle.rules.specs.Writing.{startsUnused, itemSlot, lowestUnused}
 use Rattle.slots.specs.declared.Head.{Head}

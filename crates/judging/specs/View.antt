@@ -1,13 +1,11 @@
 -- The code's judgement in the rules' words, and what callers know of an image that opens.
 use Prim.Native.Nat.{ℕ, _≤_}
-use mathlib.Core.Path.{_≡_, refl, sym, ap, _∙_}
-use mathlib.Core.Bool.{true, false}
+use mathlib.Core.Path.{_≡_, sym, ap, _∙_}
 use mathlib.Core.List.{List}
 use lib.ListN.{length}
 use Rattle.rules.specs.SuperBlock.{Geometry}
-use Rattle.rules.specs.SuperBlock.Laws.{GoodGeometry}
-use Rattle.rules.specs.Index.{itemsOf, entriesOf, indexSound}
-use Rattle.rules.specs.Refusals.{Verdict, refused, accepted, Volume, entries, judgeGeometry, judgeIndex, judge}
+use Rattle.rules.specs.Index.{itemsOf, entriesOf}
+use Rattle.rules.specs.Refusals.{Verdict, refused, accepted, Volume, entries, judgeIndex, judge}
 use Rattle.rules.specs.Refusals.Laws.{judge-opens}
 use Rattle.geometry.specs.View.{geometryView}
 use Rattle.geometry.specs.declared.Geometry.{Geometry as Held}

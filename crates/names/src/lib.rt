@@ -1,7 +1,6 @@
 // The name rule and the path rules, over the bytes of a name.
 
 ghost use mathlib.Core.Path.{_≡_};
-ghost use Prim.Native.Nat.{_≤_};
 ghost use lib.Dec.{eqb};
 ghost use Rattle.rules.specs.Lists.{all, any};
 ghost use Rattle.rules.specs.Names.{isMark, byteGood, textGood, parts, partGood, pathGood, newPathGood, volumeTextGood, volumeNameGood};

@@ -1,13 +1,13 @@
 -- 01, "Sizes": fields are little-endian; stamps are signed, other fields unsigned. And the checksum of "Super-block".
 use Prim.Native.Nat.{ℕ, zero, suc, _+_, _-_, _*_, _/_, _%_, _^_}
-use mathlib.Core.Bool.{Bool, true, false, _||_}
+use mathlib.Core.Bool.{Bool, false, _||_}
 use mathlib.Core.List.{List, [], _∷_, _++_}
 use lib.ListN.{length, getD, take, drop}
 use lib.Dec.{eqb, ltb}
 use lib.IntN.{ℤ, pos, negsuc}
 pub mod Laws
 pub mod Signed
-use Rattle.rules.specs.Lists.{pick, sum, part}
+use Rattle.rules.specs.Lists.{pick, sum}
 
 -- the byte at a place; 0 past the end
 unfoldable pub byteAt : List ℕ → ℕ → ℕ

@@ -1,5 +1,5 @@
 -- 01, "The history": what it holds, how each call feeds it, and the statements of demand 3 and of the claim about two images.
-use Prim.Native.Nat.{ℕ, zero, suc, _+_, _-_, _*_, _≤_}
+use Prim.Native.Nat.{ℕ, _+_, _-_, _*_, _≤_}
 use mathlib.Core.Path.{_≡_}
 use mathlib.Core.Bool.{Bool, true, false, _&&_, not}
 use mathlib.Core.List.{List, [], _∷_, map}
@@ -8,14 +8,14 @@ use lib.Dec.{eqb}
 use lib.IntN.{ℤ}
 use Rattle.rules.specs.Lists.{only, sum, eqList, part, Perm, All, Pairs}
 use Rattle.rules.specs.Fields.{splice}
-use Rattle.rules.specs.SuperBlock.{Geometry, blockLength, superBlockAt}
+use Rattle.rules.specs.SuperBlock.{blockLength, superBlockAt}
 use Rattle.rules.specs.Index.{Entry, fileType, typeFile}
 use Rattle.rules.specs.Regions.{holds, blocksOf, blocksNeeded, heldBlocks}
 use Rattle.rules.specs.Paths.{isLive}
-use Rattle.rules.specs.Refusals.{Verdict, accepted, Volume, entries, judge}
+use Rattle.rules.specs.Refusals.{accepted, Volume, entries, judge}
 use Rattle.rules.specs.Outcome.{Outcome, done}
 use Rattle.rules.specs.Reading.{openOf, findOf, listOf, readOf}
-use Rattle.rules.specs.Writing.{Written, New, kindOf, bytesOf, formatOf, createOf, deleteOf, reclaimOf}
+use Rattle.rules.specs.Writing.{New, kindOf, bytesOf, formatOf, createOf, deleteOf, reclaimOf}
 
 -- ---- the calls, with any arguments and lent outputs
 pub data Call : Type 0 where

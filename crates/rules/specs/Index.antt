@@ -4,7 +4,7 @@ use mathlib.Core.Path.{_≡_}
 use mathlib.Core.Bool.{Bool, true, false, _&&_, _||_, not}
 use mathlib.Core.List.{List, [], _∷_, _++_}
 use lib.ListN.{length, take, drop, replicate}
-use lib.Dec.{eqb, ltb, leb}
+use lib.Dec.{eqb, leb}
 use lib.IntN.{ℤ, pos}
 use Rattle.rules.specs.Lists.{pick, all, padded, part}
 use Rattle.rules.specs.Fields.{byteAt, le, leBytes, splice, stampIn, stampBytes, upToZero, hasZero}

@@ -1,6 +1,6 @@
 -- 01, "The calls": what a call answers and leaves. Nothing else of it can be seen.
 use Prim.Native.Nat.{ℕ}
-use mathlib.Core.List.{List, []}
+use mathlib.Core.List.{List}
 use lib.IntN.{ℤ, pos}
 use Rattle.rules.specs.Index.{Entry}
 use Rattle.rules.specs.Refusals.{Verdict, refused, accepted, Volume, judge, andThen}

@@ -1,10 +1,10 @@
 -- 01, "Index area": live entries, their paths and their directories.
-use Prim.Native.Nat.{ℕ, _+_}
-use mathlib.Core.Bool.{Bool, true, false, _&&_, _||_, not}
-use mathlib.Core.List.{List, [], _∷_}
-use mathlib.Core.Option.{Option, none, some}
+use Prim.Native.Nat.{ℕ}
+use mathlib.Core.Bool.{Bool, _&&_, _||_, not}
+use mathlib.Core.List.{List}
+use mathlib.Core.Option.{Option}
 use lib.Dec.{eqb, leb}
-use Rattle.rules.specs.Lists.{all, any, everyTwo, first, only, eqList}
+use Rattle.rules.specs.Lists.{all, any, everyTwo, first, eqList}
 use Rattle.rules.specs.Names.{leading, isBelow}
 use Rattle.rules.specs.Index.{Entry, liveType, typeDirectory}
 pub mod Laws

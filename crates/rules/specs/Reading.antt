@@ -1,6 +1,5 @@
 -- 01, "The calls": open, find, list and read. The image is as it was.
-use Prim.Native.Nat.{ℕ, _+_, _*_}
-use mathlib.Core.Bool.{Bool, true, false}
+use Prim.Native.Nat.{ℕ, _*_}
 use mathlib.Core.List.{List, []}
 use mathlib.Core.Option.{Option, none, some}
 use lib.ListN.{length}
@@ -11,7 +10,7 @@ use Rattle.rules.specs.SuperBlock.{Geometry, blockLength}
 use Rattle.rules.specs.Names.{pathGood}
 use Rattle.rules.specs.Index.{Entry, volumeName, volumeStamp, typeFile}
 use Rattle.rules.specs.Paths.{lookup, nextLive}
-use Rattle.rules.specs.Refusals.{Verdict, accepted, need, needFound, Volume, entries}
+use Rattle.rules.specs.Refusals.{Verdict, accepted, need, needFound, entries}
 use Rattle.rules.specs.Outcome.{Outcome, done, onVolume, VolumeNumbers, noVolume, EntryNumbers, noEntry, numbersOf, ListedNumbers, noneListed}
 pub mod Laws
 

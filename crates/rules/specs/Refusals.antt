@@ -1,10 +1,10 @@
 -- 01, "Refusal numbers": a chain of tests, each with its number, and the first eight of them, which judge an image.
-use Prim.Native.Nat.{ℕ, _+_}
+use Prim.Native.Nat.{ℕ}
 use mathlib.Core.Bool.{Bool, true, false}
 use mathlib.Core.List.{List}
 use mathlib.Core.Option.{Option, none, some}
 use lib.ListN.{length}
-use lib.Dec.{eqb, leb}
+use lib.Dec.{leb}
 use Rattle.rules.specs.Lists.{part, eqList}
 use Rattle.rules.specs.Fields.{byteAt, checks}
 use Rattle.rules.specs.SuperBlock.{Geometry, geometryOf, geometryGood, lengthGood, magic, magicAt, versionAt, version10, sealedLength}

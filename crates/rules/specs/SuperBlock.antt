@@ -1,13 +1,12 @@
 -- 01, "Sizes" and "Super-block": where the fields are, the geometry, and when it is good.
 use Prim.Native.Nat.{ℕ, _+_, _-_, _*_, _/_, _%_, _^_, max}
-use mathlib.Core.Bool.{Bool, true, false, _&&_}
+use mathlib.Core.Bool.{Bool, _&&_}
 use mathlib.Core.List.{List, [], _∷_, _++_}
 use mathlib.Core.Option.{Option, none, some}
-use lib.ListN.{length}
-use lib.Dec.{eqb, ltb, leb}
+use lib.Dec.{eqb, leb}
 use lib.IntN.{ℤ}
-use Rattle.rules.specs.Lists.{pick, part, eqList}
-use Rattle.rules.specs.Fields.{byteAt, le, leBytes, splice, stampIn, stampBytes, checks, checksumOf}
+use Rattle.rules.specs.Lists.{pick}
+use Rattle.rules.specs.Fields.{byteAt, le, leBytes, splice, stampIn, stampBytes, checksumOf}
 pub mod Laws
 
 -- an image has 512 to 16,777,216 bytes

@@ -9,8 +9,8 @@ use lib.IntN.{pos}
 use Rattle.rules.specs.Lists.{pick}
 use Rattle.rules.specs.Lists.Laws.{clash, pick-true, pick-false}
 use Rattle.rules.specs.Fields.{byteAt, le, signedOf, stampIn, upToZero}
-use Rattle.rules.specs.Fields.Laws.{le-drop, le-1, upToZero-take}
-use Rattle.rules.specs.Index.{Entry, entryAt, unusableAt, runSlots, nameGood, nameField, runType, typeUnusable, nameAt, slotBytes, fileField, fileType, directoryType}
+use Rattle.rules.specs.Fields.Laws.{le-drop, le-1}
+use Rattle.rules.specs.Index.{Entry, entryAt, unusableAt, runSlots, nameGood, nameField, runType, typeUnusable, nameAt, fileField, fileType, directoryType}
 use Rattle.rules.specs.Index.Walk.{pick-both}
 use Rattle.rules.specs.Index.Items.{byte-drop, type-drop, name-field, headOf, head-run, head-unusable, Stands}
 use Rattle.slots.specs.declared.Head.{Head}

@@ -4,7 +4,7 @@ use mathlib.Core.Path.{_≡_, sym, _∙_}
 use mathlib.Core.Bool.{true, _&&_}
 use mathlib.Core.List.{List}
 use native.Mathlib.Omega.{arith}
-use lib.ListN.{length, drop}
+use lib.ListN.{length}
 use Rattle.rules.specs.Lists.Laws.{and-true}
 use Rattle.rules.specs.SuperBlock.{Geometry}
 use Rattle.rules.specs.SuperBlock.Laws.{GoodGeometry}

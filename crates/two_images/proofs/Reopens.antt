@@ -1,6 +1,6 @@
 -- An image of the same length, with the super-block and the index area of one that opens, opens as the same volume.
 use Prim.Native.Nat.{ℕ, _-_}
-use mathlib.Core.Path.{_≡_, sym, _∙_}
+use mathlib.Core.Path.{_≡_, sym}
 use mathlib.Core.List.{List}
 use lib.ListN.{length, drop}
 use Rattle.rules.specs.Lists.{part}

@@ -1,6 +1,6 @@
 -- Two answers that meet the contract of one call, on images that agree, are the same answer.
 use Prim.Native.Nat.{ℕ}
-use mathlib.Core.Path.{_≡_, refl, sym, ap, ap₂, _∙_}
+use mathlib.Core.Path.{_≡_, sym, ap, ap₂, _∙_}
 use mathlib.Core.List.{List}
 use Rattle.rules.specs.Outcome.{Outcome, EntryNumbers, ListedNumbers}
 use Rattle.rules.specs.History.{Agree, SameAnswer}

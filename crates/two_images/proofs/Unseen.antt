@@ -7,7 +7,7 @@ use mathlib.Core.List.{List, _∷_, _++_}
 use mathlib.Core.Logic.{_⊎_, inl, inr, ⊎-elim}
 use native.Mathlib.Omega.{arith}
 use native.Mathlib.Nat.{mul-le-mul-right, zero-mul}
-use lib.ListN.{length, getD, take, drop, length-drop}
+use lib.ListN.{length, take, drop, length-drop}
 use lib.Seq.{ext-getD, getD-take, getD-drop}
 use lib.Dec.{leb}
 use borrow.Author.Tests.{leb-true}
@@ -23,7 +23,7 @@ use Rattle.rules.specs.Paths.{isLive}
 use Rattle.rules.specs.Refusals.{accepted, Volume, entries, judge}
 use Rattle.rules.specs.Refusals.Laws.{Opens, judge-opens}
 use Rattle.rules.specs.History.{Agree, SameAnswers}
-use Rattle.laws.proofs.Lists.Every.{not-both, all-weaken, all-and, all-join, all-at, all-placed, pairs-split, only-holds}
+use Rattle.laws.proofs.Lists.Every.{not-both, all-weaken, all-join, all-at, all-placed, pairs-split, only-holds}
 use Rattle.laws.proofs.Entries.Regions.{sound-says, FileRegion, file-region, region-bytes}
 use Rattle.two_images.specs.Unseen.{liveFile, OutOfBlocks, Unseen, DifferUnseen}
 use Rattle.two_images.proofs.Reopens.{reopens}

@@ -1,7 +1,6 @@
 use Prim.Native.Nat.{_+_, _-_}
 use mathlib.Core.Path.{_≡_, _∙_}
 use native.Mathlib.Omega.{arith}
-use denote.Ref.{now}
 use Rattle.rules.specs.Lists.{part}
 use borrow.Author.Needs.{needs}
 use Rattle.copying.proofs.copy_out.Statement.{statement}

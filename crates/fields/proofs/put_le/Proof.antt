@@ -1,8 +1,7 @@
-use Prim.Native.Nat.{ℕ, _+_, _-_, _*_, _^_, _≤_, _<_}
-use mathlib.Core.Path.{_≡_, refl, sym, ap, _∙_}
+use Prim.Native.Nat.{_+_, _-_}
+use mathlib.Core.Path.{_≡_, sym, _∙_}
 use native.Mathlib.Omega.{arith}
-use lib.ListN.{length, getD, length-set}
-use denote.Ref.{now}
+use lib.ListN.{length, length-set}
 use Rattle.rules.specs.Fields.{splice, leBytes}
 use Rattle.rules.specs.Fields.Laws.{put-up, splice-nil, leBytes-zero}
 use borrow.Author.Needs.{needs}

@@ -1,4 +1,4 @@
-use mathlib.Core.Path.{refl, sym, _∙_}
+use mathlib.Core.Path.{sym, _∙_}
 use Rattle.rules.specs.Lists.{pick}
 use Rattle.rules.specs.Writing.{isDeleted}
 use Rattle.slots.specs.View.{headView}

@@ -3,7 +3,6 @@ use Prim.Native.Nat.{ℕ, _+_, _-_, _≤_, _<_}
 use mathlib.Core.Path.{_≡_, refl, sym, _∙_}
 use native.Mathlib.Omega.{arith}
 use borrow.Author.Tests.{leb-true, leb-false, ltb-true, ltb-false, not-true, not-false}
-use denote.Ref.{now}
 use Rattle.rules.specs.Regions.{lowestFree}
 use Rattle.index.specs.Steps.{entriesFrom}
 use Rattle.free_runs.specs.Runs.{lowest-none, lowest-found, lowest-jump}

@@ -1,11 +1,8 @@
-use mathlib.Core.Path.{_≡_, refl, sym, ap, _∙_}
+use mathlib.Core.Path.{_≡_, refl, sym, _∙_}
 use native.Mathlib.Omega.{arith}
-use denote.Ref.{now}
-use Prim.Native.Nat.{_<_}
 use lib.ListN.{drop}
 use Rattle.rules.specs.Index.Items.{faultless}
 use Rattle.index.specs.View.{Inside, itemsFrom, past-inside, walk-stops, walk-turns, walk-ends}
-use borrow.Author.Needs.{needs}
 use Rattle.index.proofs.walk_sound.Statement.{statement}
 use Rattle.index.proofs.walk_sound.Tie as tie
 

@@ -1,5 +1,4 @@
-use mathlib.Core.Path.{_≡_, sym, ap, _∙_}
-use denote.Ref.{now}
+use mathlib.Core.Path.{sym, ap, _∙_}
 use Rattle.rules.specs.Refusals.Laws.{judge-refused, judge-index}
 use Rattle.super_block.specs.View.{superView, judged}
 use Rattle.judging.specs.View.{judgedView}

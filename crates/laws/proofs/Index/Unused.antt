@@ -1,11 +1,11 @@
 -- Unused slots: as they are stored, and the lowest ones that hold a run.
-use Prim.Native.Nat.{ℕ, zero, suc, _+_, _-_, _*_}
+use Prim.Native.Nat.{ℕ, zero, suc, _+_, _-_}
 use mathlib.Core.Path.{_≡_, refl, sym, ap, ap₂, _∙_}
 use mathlib.Core.Bool.{Bool, true, false}
 use mathlib.Core.List.{List, [], _∷_, _++_}
 use mathlib.Core.Option.{some}
 use native.Mathlib.Omega.{arith}
-use lib.ListN.{length, drop, length-append}
+use lib.ListN.{drop}
 use Rattle.rules.specs.Lists.{pick, all, firstIf, padded}
 use Rattle.rules.specs.Lists.Laws.{clash, length-padded}
 use Rattle.rules.specs.Fields.{byteAt}

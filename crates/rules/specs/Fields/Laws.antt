@@ -4,15 +4,15 @@ use mathlib.Core.Path.{_≡_, refl, sym, ap, _∙_}
 use mathlib.Core.List.{List, [], _∷_, _++_, append-assoc, append-nil}
 use native.Mathlib.Numerals.{add-one, one-add}
 use native.Mathlib.Omega.{arith}
-use native.Mathlib.Nat.{add-zero, zero-add, add-assoc, add-suc, mul-suc, div-add-mod'}
-use lib.ListN.{replicate, length-replicate, length, getD, take, drop, set, length-append, length-take, length-drop, length-set, take-append-drop, List·getD-append, List·getD-eq-default}
-use lib.Seq.{drop-cons, drop-append-add, drop-drop, take-at, drop-at, drop-length, take-suc-set, drop-set-lt, getD-append-add, getD-take, getD-drop, length-take-le, getD-append-seam, append-snoc, take-append-add, take-append-seam}
+use native.Mathlib.Nat.{add-zero, zero-add, add-assoc}
+use lib.ListN.{replicate, length-replicate, length, getD, take, drop, set, length-append, length-take, length-drop, take-append-drop, List·getD-append}
+use lib.Seq.{drop-cons, drop-append-add, drop-drop, take-at, drop-at, drop-length, take-suc-set, drop-set-lt, getD-append-add, getD-take, getD-drop, length-take-le, take-append-add, take-append-seam}
 use borrow.Rule.Slice.PartMut.{putMid, post-is}
 use lib.Pow.{pow-add}
 use borrow.Author.Tests.{eq-eqb, ne-eqb, lt-ltb}
 use native.Mathlib.Decide.{ℕ-discrete}
 use Rattle.rules.specs.Lists.Laws.{pick-true, pick-false}
-use lib.Dec.{eqb, ltb, leb·suc-suc}
+use lib.Dec.{ltb, leb·suc-suc}
 use mathlib.Core.Bool.{true}
 use Rattle.rules.specs.Lists.{sum, part, padded}
 use Rattle.rules.specs.Fields.{le, leBytes, splice, byteSum, checks, checksumOf, upToZero, hasZero, byteAt}

@@ -1,19 +1,16 @@
 -- What the walk depends on: the bytes of its slots and nothing behind them; and slot numbers only shift.
-use Prim.Native.Nat.{ℕ, zero, suc, _+_, _-_, _*_, _/_, _≤_, _<_}
-use mathlib.Core.Path.{_≡_, refl, sym, ap, ap₂, _∙_}
-use mathlib.Core.Bool.{Bool, true, false, _&&_, not}
-use mathlib.Core.List.{List, [], _∷_, _++_}
+use Prim.Native.Nat.{ℕ, zero, suc, _+_, _-_, _*_, _≤_, _<_}
+use mathlib.Core.Path.{_≡_, refl, sym, ap, _∙_}
+use mathlib.Core.List.{List}
 use native.Mathlib.Omega.{arith}
 use native.Mathlib.Decide.{decLe}
-use lib.ListN.{length, getD, take, drop}
-use lib.Seq.{getD-take, take-take, drop-drop, take-add}
-use lib.Dec.{eqb, leb}
+use lib.ListN.{getD, take, drop}
+use lib.Seq.{getD-take, take-take}
 use borrow.Author.Tests.{lt-leb}
-use Rattle.rules.specs.Lists.{pick, all}
 use Rattle.rules.specs.Lists.Laws.{pick-false, drop-take}
 use Rattle.rules.specs.Fields.{byteAt, le, stampIn}
 use Rattle.rules.specs.Fields.Laws.{le-ext}
-use Rattle.rules.specs.Index.{Entry, Item, unused, entry, fault, itemAt, runAt, entryAt, unusableAt, fileField, followed, walk, runSlots, slotBytes, nameField, nameGood, countAt, stampAt, startAt, endAt, lengthAt}
+use Rattle.rules.specs.Index.{Item, itemAt, runAt, entryAt, unusableAt, fileField, followed, runSlots, slotBytes, nameField, countAt, stampAt, startAt, endAt, lengthAt}
 use Rattle.rules.specs.Index.Walk.{walkAll, walk-none, walk-step, followed-ext, slotsOf, slots-pos}
 
 -- two lists that begin alike

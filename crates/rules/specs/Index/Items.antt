@@ -1,16 +1,15 @@
 -- What stands at a slot, by cases; and what a slot without fault is.
-use Prim.Native.Nat.{ℕ, zero, suc, _+_, _-_, _*_, _≤_, _<_}
+use Prim.Native.Nat.{ℕ, _+_, _-_, _*_, _≤_, _<_}
 use mathlib.Core.Path.{_≡_, refl, sym, ap, _∙_}
-use mathlib.Core.Bool.{Bool, true, false, _&&_, _||_, not}
+use mathlib.Core.Bool.{Bool, true, false, _||_, not}
 use mathlib.Core.List.{List, [], _∷_}
 use native.Mathlib.Omega.{arith}
-use native.Mathlib.Decide.{ℕ-discrete}
 use lib.ListN.{length, getD, take, drop}
 use lib.Seq.{drop-drop, getD-drop}
 use lib.Dec.{eqb, leb}
-use borrow.Author.Tests.{le-ltb, lt-ltb, le-leb, lt-leb, eq-eqb, ne-eqb, leb-true, leb-false, not-true, eqb-true, eqb-false}
+use borrow.Author.Tests.{le-ltb, lt-ltb, le-leb, lt-leb, eq-eqb, ne-eqb, leb-true, leb-false, eqb-true, eqb-false}
 use Rattle.rules.specs.Lists.{pick, all}
-use Rattle.rules.specs.Lists.Laws.{clash, pick-true, pick-false, and-true, and-both, and-left, and-right, or-false, all-cons, drop-take}
+use Rattle.rules.specs.Lists.Laws.{clash, pick-true, pick-false, and-both, and-left, and-right, or-false, drop-take}
 use Rattle.rules.specs.Fields.{byteAt, le, upToZero, hasZero}
 use Rattle.rules.specs.Fields.Laws.{hasZero-ltb, upToZero-take, le-drop}
 use Rattle.rules.specs.Names.{pathGood}

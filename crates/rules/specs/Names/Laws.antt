@@ -1,6 +1,6 @@
 -- Laws of names and paths: by cases, joined by a slash, and what is sure of one that is good.
 use Prim.Native.Nat.{ℕ, suc, _-_, _≤_, _<_}
-use mathlib.Core.Path.{_≡_, refl, sym, ap, ap₂, _∙_}
+use mathlib.Core.Path.{_≡_, refl, sym, ap, _∙_}
 use mathlib.Core.Bool.{Bool, true, false, _&&_, not}
 use mathlib.Core.List.{List, [], _∷_, _++_, map, map-append}
 use native.Mathlib.Omega.{arith}
@@ -9,8 +9,8 @@ use lib.Seq.{take-suc}
 use lib.Dec.{eqb, leb}
 use borrow.Author.Tests.{eq-eqb, ne-eqb, le-leb, lt-leb, leb-true}
 use Rattle.rules.specs.Lists.{pick, all, any, eqList}
-use Rattle.rules.specs.Lists.Laws.{clash, pick-false, and-true, and-both, and-right, all-append}
-use Rattle.rules.specs.Fields.{upToZero, hasZero}
+use Rattle.rules.specs.Lists.Laws.{clash, and-true, and-right}
+use Rattle.rules.specs.Fields.{upToZero}
 use Rattle.rules.specs.Names.{slash, isMark, byteGood, textGood, intoFirst, parts, partGood, pathGood, newPathGood, volumeTextGood, volumeNameGood, leadIf, leading, isBelow}
 
 -- ---- bytes

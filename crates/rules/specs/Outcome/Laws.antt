@@ -1,10 +1,8 @@
 -- Laws of outcomes: what a call comes to, by its verdict.
 use Prim.Native.Nat.{ℕ}
-use mathlib.Core.Path.{_≡_, refl, sym, ap, _∙_}
-use mathlib.Core.Bool.{Bool, true, false}
+use mathlib.Core.Path.{_≡_, ap, _∙_}
 use mathlib.Core.List.{List}
-use mathlib.Core.Option.{Option, none, some}
-use Rattle.rules.specs.Refusals.{Verdict, refused, accepted, need, needFound, andThen, Volume, judge}
+use Rattle.rules.specs.Refusals.{Verdict, refused, accepted, Volume, judge}
 use Rattle.rules.specs.Refusals.Laws.{then-refused, then-next}
 use Rattle.rules.specs.Outcome.{Outcome, conclude, onVolume}
 

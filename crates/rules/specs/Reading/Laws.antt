@@ -1,19 +1,18 @@
 -- Laws of the reading calls: one for each way that a call can end.
-use Prim.Native.Nat.{ℕ, _+_, _*_, _≤_, _<_}
-use mathlib.Core.Path.{_≡_, refl, sym, ap, _∙_}
-use mathlib.Core.Bool.{Bool, true, false}
+use Prim.Native.Nat.{ℕ, _≤_, _<_}
+use mathlib.Core.Path.{_≡_, ap, _∙_}
+use mathlib.Core.Bool.{true, false}
 use mathlib.Core.List.{List, []}
-use mathlib.Core.Option.{Option, none, some}
+use mathlib.Core.Option.{none, some}
 use lib.ListN.{length}
-use lib.Dec.{eqb, leb}
 use borrow.Author.Tests.{le-leb, lt-leb, eq-eqb, ne-eqb}
 use Rattle.rules.specs.Fields.{splice}
 use Rattle.rules.specs.Names.{pathGood}
 use Rattle.rules.specs.Index.{Entry, volumeName, typeFile}
 use Rattle.rules.specs.Paths.{lookup, nextLive}
-use Rattle.rules.specs.Refusals.{Verdict, refused, accepted, Volume, entries, judge}
+use Rattle.rules.specs.Refusals.{refused, accepted, Volume, entries, judge}
 use Rattle.rules.specs.Refusals.Laws.{need-true, need-false, found-none, found-some}
-use Rattle.rules.specs.Outcome.{Outcome, done, noVolume, noEntry, noneListed, numbersOf}
+use Rattle.rules.specs.Outcome.{done, noVolume, noEntry, noneListed, numbersOf}
 use Rattle.rules.specs.Outcome.Laws.{denied, volume-refused, volume-denied, volume-done}
 use Rattle.rules.specs.Reading.{openOf, volumeNumbers, findOf, readOf, fileBytes, listOf, listed}
 

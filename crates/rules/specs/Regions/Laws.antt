@@ -1,16 +1,16 @@
 -- Laws of regions and free runs: what the tests say of the blocks, and what the search for a run says of its answer. Assumes nothing.
 use Prim.Native.Nat.{ℕ, zero, suc, _+_, _-_, _*_, max, _≤_, _<_}
-use mathlib.Core.Path.{_≡_, refl, sym, ap, ap₂, _∙_}
-use mathlib.Core.Bool.{Bool, true, false, _&&_, _||_, not}
+use mathlib.Core.Path.{_≡_, refl, _∙_}
+use mathlib.Core.Bool.{Bool, true, false, _||_, not}
 use mathlib.Core.List.{List}
 use mathlib.Core.Option.{Option, none, some}
-use native.Mathlib.Nat.{lt-div-mul-add, div-mul-le-self, div-eq-of-lt}
+use native.Mathlib.Nat.{lt-div-mul-add, div-eq-of-lt}
 use native.Mathlib.Decide.{decLt}
 use native.Mathlib.Omega.{arith}
 use lib.Dec.{leb, ltb}
 use borrow.Author.Tests.{leb-true, leb-false, ltb-true, lt-ltb, le-leb, not-true}
 use Rattle.rules.specs.Lists.{firstIf}
-use Rattle.rules.specs.Lists.Laws.{clash, and-true, and-both, or-false}
+use Rattle.rules.specs.Lists.Laws.{and-true, and-both, or-false}
 use Rattle.rules.specs.Index.{Entry}
 use Rattle.rules.specs.Regions.{holds, apart, busy, runFree, lowestFrom, lowestFree, LowestRun, blocksNeeded}
 

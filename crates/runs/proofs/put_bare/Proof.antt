@@ -1,7 +1,6 @@
 use Prim.Native.Nat.{_-_}
-use mathlib.Core.Path.{_≡_, refl, sym, ap, _∙_}
+use mathlib.Core.Path.{_≡_, _∙_}
 use native.Mathlib.Omega.{arith}
-use denote.Ref.{now}
 use borrow.Author.Needs.{needs}
 use Rattle.runs.proofs.put_bare.Statement.{statement}
 use Rattle.runs.proofs.put_bare.Tie as tie

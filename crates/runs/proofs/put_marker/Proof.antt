@@ -1,6 +1,3 @@
-use mathlib.Core.Path.{_≡_, refl, sym, ap, _∙_}
-use native.Mathlib.Omega.{arith}
-use denote.Ref.{now}
 use Rattle.rules.specs.Index.{markerBytes}
 use borrow.Author.Needs.{needs}
 use Rattle.runs.proofs.put_marker.Statement.{statement}

@@ -1,7 +1,6 @@
 use Prim.Native.Nat.{ℕ}
 use lib.ListN.{take}
-use mathlib.Core.Path.{_≡_, refl, sym, ap, _∙_}
-use native.Mathlib.Omega.{arith}
+use mathlib.Core.Path.{sym, ap, _∙_}
 use denote.Ref.{now}
 use lib.Seq.{length-take-le}
 use Rattle.rules.specs.Fields.Laws.{upToZero-take}

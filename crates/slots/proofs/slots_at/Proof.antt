@@ -1,7 +1,6 @@
-use mathlib.Core.Path.{_≡_, refl, sym, ap, _∙_}
+use mathlib.Core.Path.{ap, _∙_}
 use native.Mathlib.Omega.{arith}
 use denote.Ref.{now}
-use Prim.Native.Nat.{_≤_}
 use Rattle.rules.specs.Fields.{le}
 use Rattle.slots.specs.View.{slots-read}
 use borrow.Author.Needs.{needs}

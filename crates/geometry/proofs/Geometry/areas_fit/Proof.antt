@@ -1,6 +1,5 @@
 use mathlib.Core.Path.{_≡_, sym, _∙_}
-use mathlib.Core.Bool.{true, _&&_}
-use lib.Dec.{leb}
+use mathlib.Core.Bool.{true}
 use Rattle.geometry.specs.View.{areasFit}
 use Rattle.rules.specs.SuperBlock.{dataEnd, indexGood}
 use borrow.Author.Tests.{lt-leb, le-leb, not-true, not-false}

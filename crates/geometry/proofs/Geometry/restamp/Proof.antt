@@ -1,4 +1,4 @@
-use Rattle.rules.specs.SuperBlock.{restamp, withStamp}
+use Rattle.rules.specs.SuperBlock.{restamp}
 use Rattle.rules.specs.Lists.{pick}
 use borrow.Author.Tests.{eq-eqb, ne-eqb}
 use borrow.Author.Needs.{needs}
