@@ -28,8 +28,8 @@ use Rattle.judging.specs.View.{Opened, volumeOf}
 use native.Mathlib.Nat.{mul-le-mul-right}
 use Rattle.geometry.specs.View.{geometryView}
 use Rattle.geometry.specs.declared.Geometry.{Geometry as Held}
-use Rattle.index.specs.declared.Head.{Head}
-use Rattle.index.specs.View.{headView}
+use Rattle.slots.specs.declared.Head.{Head}
+use Rattle.slots.specs.View.{headView}
 
 file-kind : (t : ℕ) → t ≡ typeFile → fileType t ≡ true
 unfolding fileType

@@ -3,7 +3,7 @@ use mathlib.Core.Path.{_≡_, refl, ap, _∙_}
 use native.Mathlib.Omega.{arith}
 use denote.Ref.{now}
 use lib.ListN.{length, length-append}
-use Rattle.index.specs.View.{headView}
+use Rattle.slots.specs.View.{headView}
 use Rattle.index.specs.Steps.{Walks, Step, entriesFrom}
 use Rattle.index.specs.Turns.{told-end, told-found}
 use Rattle.listing.specs.Lines.{entryText, liveText, text-end, text-next, Left, left-none, left-next}
