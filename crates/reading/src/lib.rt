@@ -221,14 +221,15 @@ fn none_listed(n: u32) -> Listed
 fn listed_numbers(h: Head, n: usize) -> Listed
     ensures { λ r. ⌜ (r .refusal ≡ 0) × ((s : List ℕ) → listedAnswer r ≡ record { found = numbersOf (headView s h); pathLength = n }) ⌝ }
 {
+    let e = entry_numbers(h);
     Listed {
-        refusal: 0,
-        kind: h.kind as u32,
-        slot: h.slot.number(),
-        start: h.start.number(),
-        end: h.end.number(),
-        length: h.length,
-        stamp: stamps::from_bits(h.stamp),
+        refusal: e.refusal,
+        kind: e.kind,
+        slot: e.slot,
+        start: e.start,
+        end: e.end,
+        length: e.length,
+        stamp: e.stamp,
         path_length: n as u64,
     }
 }

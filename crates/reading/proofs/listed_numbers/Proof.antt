@@ -1,32 +1,18 @@
-use mathlib.Core.Path.{refl}
+use mathlib.Core.Path.{_≡_, ap}
 use mir.Syntax.{w64}
-use mir.ValLaws.{toZ-ofZ}
-use Rattle.rules.specs.Outcome.{numbersOf}
-use Rattle.slots.specs.View.{headView}
+use mir.Val.{toZ, ofZ}
+use Rattle.rules.specs.Outcome.{EntryNumbers, ListedNumbers}
 use borrow.Author.Needs.{needs}
 use Rattle.reading.proofs.listed_numbers.Statement.{statement}
 use Rattle.reading.proofs.listed_numbers.Tie as tie
 
-cast-t3 : tie.Need-cast-t3
-cast-t3 c = search needs
-
-number-requires : tie.Need-number-requires
-number-requires c κs = search needs
-
-number-requires-2 : tie.Need-number-requires-2
-number-requires-2 c κs = search needs
-
-number-requires-3 : tie.Need-number-requires-3
-number-requires-3 c κs = search needs
-
-from-bits-requires : tie.Need-from-bits-requires
-from-bits-requires c κs = search needs
+entry-numbers-requires : tie.Need-entry-numbers-requires
+entry-numbers-requires c κs = search needs
 
 returns : tie.Need-returns
-unfolding numbersOf headView
-returns c = let d = c .before in
-    let f = c .from-bits in
-    (refl, λ s. rw (toZ-ofZ w64 (f .result) (record { sfits = f .ok }), f .ensures, d .number3 .ensures, d .before .number2 .ensures, d .before .before .number .ensures))
+returns c = let e = c .before .entry-numbers in
+    let z : toZ w64 (ofZ w64 (e .result .stamp)) ≡ e .result .stamp = search needs in
+    (e .ensures .0, λ s. rw z (ap (λ (x : EntryNumbers). record { found = x; pathLength = c .before .before .args .n }) (e .ensures .1 s)))
 
 pub listed-numbers-spec : {M : Type 1} → statement M
-listed-numbers-spec = tie.close (tie.spec cast-t3 number-requires number-requires-2 number-requires-3 from-bits-requires returns)
+listed-numbers-spec = tie.close (tie.spec entry-numbers-requires returns)
