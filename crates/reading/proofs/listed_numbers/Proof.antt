@@ -1,7 +1,7 @@
 use mathlib.Core.Path.{_≡_, ap}
 use mir.Syntax.{w64}
 use mir.Val.{toZ, ofZ}
-use Rattle.rules.specs.Outcome.{EntryNumbers, ListedNumbers}
+use Rattle.rules.specs.Outcome.{EntryNumbers}
 use borrow.Author.Needs.{needs}
 use Rattle.reading.proofs.listed_numbers.Statement.{statement}
 use Rattle.reading.proofs.listed_numbers.Tie as tie
