@@ -1,20 +1,20 @@
--- Laws of the reading calls: the ways that a call can end, for read and list up to an entry that is found.
+-- Laws of the reading calls: the ways that a call can end. Of an entry that read or list found, the code's crate has the other ends.
 use Prim.Native.Nat.{ℕ, _≤_, _<_}
 use mathlib.Core.Path.{_≡_, ap, _∙_}
 use mathlib.Core.Bool.{true, false}
 use mathlib.Core.List.{List, []}
 use mathlib.Core.Option.{none, some}
 use lib.ListN.{length}
-use borrow.Author.Tests.{le-leb, lt-leb}
+use borrow.Author.Tests.{le-leb, lt-leb, eq-eqb}
 use Rattle.rules.specs.Fields.{splice}
 use Rattle.rules.specs.Names.{pathGood}
-use Rattle.rules.specs.Index.{Entry, volumeName}
+use Rattle.rules.specs.Index.{Entry, volumeName, typeFile}
 use Rattle.rules.specs.Paths.{lookup, nextLive}
 use Rattle.rules.specs.Refusals.{refused, accepted, Volume, entries, judge}
 use Rattle.rules.specs.Refusals.Laws.{need-true, need-false, found-none, found-some}
 use Rattle.rules.specs.Outcome.{done, noVolume, noEntry, noneListed, numbersOf}
 use Rattle.rules.specs.Outcome.Laws.{denied, volume-refused, volume-denied, volume-done}
-use Rattle.rules.specs.Reading.{openOf, volumeNumbers, findOf, readOf, listOf, listed}
+use Rattle.rules.specs.Reading.{openOf, volumeNumbers, findOf, readOf, fileBytes, listOf, listed}
 
 -- ---- an image that does not open
 module _ (s : List ℕ) (n : ℕ) (bad : judge s ≡ refused n) where
@@ -66,6 +66,13 @@ module _ (s : List ℕ) (v : Volume) (opens : judge s ≡ accepted v) where
       pub read-none : pathGood path ≡ true → lookup path (entries v) ≡ none → readOf s path out ≡ denied 0 s out 11
       unfolding readOf
       read-none p e = volume-denied 0 s out _ v 11 opens (need-true 10 _ p ∙ found-none 11 _ e)
+
+      pub read-done : (e : Entry) → pathGood path ≡ true → lookup path (entries v) ≡ some e → e .kind ≡ typeFile → e .length ≤ length out
+          → readOf s path out ≡ done (e .length) s (splice out 0 (fileBytes s (v .geometry) e))
+      unfolding readOf
+      read-done e p f k h =
+          volume-done 0 s out _ v _ opens
+          (need-true 10 _ p ∙ found-some 11 _ f ∙ need-true 17 _ (eq-eqb (e .kind) typeFile k) ∙ need-true 18 _ (le-leb (e .length) (length out) h))
 
   module _ (slot : ℕ) (out : List ℕ) where
     pub list-none : nextLive slot (entries v) ≡ none → listOf s slot out ≡ done noneListed s out
