@@ -15,8 +15,8 @@ use Rattle.rules.specs.Text.{text, decimal}
 use Rattle.rules.specs.Dates.{momentOf, momentText}
 use Rattle.rules.specs.Listing.{markOf, lineOf, linesOf}
 use Rattle.text.specs.Wrote.{Wrote}
-use Rattle.index.specs.declared.Head.{Head}
-use Rattle.index.specs.View.{headView}
+use Rattle.slots.specs.declared.Head.{Head}
+use Rattle.slots.specs.View.{headView}
 
 -- ---- a line's parts
 -- mark and length

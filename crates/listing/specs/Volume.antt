@@ -1,8 +1,8 @@
 -- The whole text: a volume's, as its writers cut it, and the listing by what the judgement says.
-use Prim.Native.Nat.{ℕ, _+_, _-_, _^_, _≤_, _<_}
-use mathlib.Core.Path.{_≡_, sym, ap, _∙_}
+use Prim.Native.Nat.{ℕ, _+_, _^_, _≤_, _<_}
+use mathlib.Core.Path.{_≡_, ap, _∙_}
 use mathlib.Core.List.{List, [], _∷_, _++_}
-use lib.ListN.{length, length-append, take, drop}
+use lib.ListN.{length, length-append}
 use native.Mathlib.Omega.{arith}
 use borrow.Author.Tests.{le-leb, lt-leb}
 use Rattle.rules.specs.Lists.{only}
@@ -18,8 +18,6 @@ use Rattle.geometry.specs.declared.Geometry.{Geometry as Held}
 use Rattle.index.specs.declared.Cursor.{Cursor}
 use Rattle.index.specs.View.{Inside, itemsFrom}
 use Rattle.index.specs.Steps.{entriesFrom}
-use Rattle.super_block.specs.Ends.{name-part}
-use Rattle.paths.specs.Entries.{lent-name}
 use Rattle.regions.specs.Bounds.{good-bounded}
 use Rattle.free_runs.specs.Sums.{held-fits}
 use Rattle.judging.specs.View.{Opened, volumeOf, opened-super, opened-walks}
@@ -38,10 +36,6 @@ count-length live held = simp length-append (omega arith)
 
 abbrev pub nameText : List ℕ → List ℕ
 nameText s = volumeName s ++ text "\n"
-
--- a program lends the name by its place and length
-pub lent-volume : (s : List ℕ) → 64 ≤ length s → (n : ℕ) → n ≡ length (volumeName s) → take (length s - 52 + n - (length s - 52)) (drop (length s - 52) s) ≡ volumeName s
-lent-volume s h n e = lent-name s (length s - 52) n ∙ sym (name-part s h n e)
 
 abbrev pub entriesText : List Entry → List ℕ
 entriesText es = liveText es ++ countLine es

@@ -3,16 +3,16 @@
 
 use geometry::Geometry;
 use index::Cursor;
-use index::Head;
 use index::Next;
 use judging::Judged;
+use slots::Head;
 use text::put_byte;
 use text::put_bytes;
 use text::put_moment;
 use text::put_number;
 ghost use mathlib.Core.Path.{_≡_};
 ghost use mathlib.Core.Bool.{true};
-ghost use mathlib.Core.List.{List, [], _∷_, _++_};
+ghost use mathlib.Core.List.{List, _++_};
 ghost use Prim.Native.Nat.{ℕ, _+_, _^_, _≤_, _<_};
 ghost use lib.ListN.{length, take};
 ghost use Rattle.rules.specs.Lists.{only};
@@ -21,12 +21,17 @@ ghost use Rattle.rules.specs.Index.{runType};
 ghost use Rattle.rules.specs.Paths.{isLive};
 ghost use Rattle.rules.specs.Regions.{heldBlocks};
 ghost use Rattle.rules.specs.Listing.{markOf, lineOf, refusedLine, listingOf};
-ghost use Rattle.index.specs.View.{headView};
-ghost use Rattle.index.specs.Steps.{Walks, HeadIn, entriesFrom};
+ghost use Rattle.slots.specs.View.{headView, HeadIn};
+ghost use Rattle.index.specs.Steps.{Walks, entriesFrom};
 ghost use Rattle.judging.specs.View.{Opened};
 ghost use Rattle.text.specs.Wrote.{Wrote};
 ghost use Rattle.listing.specs.Lines.{numbersText, dateText, pathText, entryText, liveText, liveOne};
 ghost use Rattle.listing.specs.Volume.{countText, nameText, entriesText, openedText};
+
+// The longest image that is listed, and the room that its text asks for.
+const LONGEST: usize = 65_536;
+
+pub const ROOM: usize = 131_072;
 
 // Words, and then a number.
 fn put_counted(out: &mut [u8], at: usize, words: &[u8], n: u64) -> usize
@@ -74,7 +79,7 @@ fn put_path(img: &[u8], h: Head, out: &mut [u8], at: usize) -> usize
     ensures { λ r. ⌜ Wrote (now (out .entry)) at (pathText (headView (now (img .entry)) h .path)) (now (out .exit)) r ⌝ }
 {
     let space = put_byte(out, at, b' ');
-    let end = put_bytes(out, space, paths::path_of(img, h));
+    let end = put_bytes(out, space, slots::path_of(img, h));
     put_byte(out, end, b'\n')
 }
 
@@ -157,9 +162,7 @@ fn put_name(img: &[u8], out: &mut [u8]) -> usize
     requires { ⌜ (64 ≤ length (now img)) × (length (nameText (now img)) ≤ length (now out)) ⌝ }
     ensures { λ r. ⌜ Wrote (now (out .entry)) 0 (nameText (now (img .entry))) (now (out .exit)) r ⌝ }
 {
-    let n = super_block::volume_name_len(img);
-    let at = img.len() - 52;
-    let end = put_bytes(out, 0, &img[at..at + n]);
+    let end = put_bytes(out, 0, ends::volume_name(img));
     put_byte(out, end, b'\n')
 }
 
@@ -189,7 +192,7 @@ pub fn listing(img: &[u8], out: &mut [u8]) -> usize
     ensures { λ r. ⌜ Wrote (now (out .entry)) 0 (listingOf (now (img .entry))) (now (out .exit)) r ⌝ }
     ensures lent { λ r. ⌜ (r ≤ length (now (out .exit))) × (r ≡ length (take r (now (out .exit)))) ⌝ }
 {
-    if 65_536 < img.len() {
+    if LONGEST < img.len() {
         return put_refused(out, 1);
     }
     match judging::judge(img) {

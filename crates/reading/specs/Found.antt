@@ -1,39 +1,33 @@
 -- Read and list of an entry that was found: the last steps of the calls, and where a file's bytes lie.
 use Prim.Native.Nat.{ℕ, _+_, _*_, _≤_, _<_}
-use mathlib.Core.Path.{_≡_, refl, sym, ap, _∙_}
-use mathlib.Core.Bool.{Bool, true, false, _&&_}
-use mathlib.Core.List.{List, []}
+use mathlib.Core.Path.{_≡_, ap, _∙_}
+use mathlib.Core.Bool.{true, _&&_}
+use mathlib.Core.List.{List}
 use mathlib.Core.Option.{some}
-use native.Mathlib.Omega.{arith}
 use lib.ListN.{length}
 use lib.Dec.{eqb, leb}
 use borrow.Author.Tests.{le-leb, lt-leb, eq-eqb, ne-eqb}
 use Rattle.rules.specs.Fields.{splice}
-use Rattle.rules.specs.SuperBlock.{Geometry, blockLength, dataEnd}
+use Rattle.rules.specs.SuperBlock.{Geometry, blockLength}
 use Rattle.rules.specs.Names.{pathGood}
-use Rattle.rules.specs.Lists.Laws.{and-true, or-false}
-use Rattle.rules.specs.SuperBlock.Laws.{areas-fit}
+use Rattle.rules.specs.Lists.Laws.{and-true}
 use Rattle.rules.specs.Regions.{regionGood}
 use Rattle.rules.specs.Paths.{lookup, liveAt, isLive, nextLive}
 use Rattle.rules.specs.Paths.Laws.{live-run}
-use Rattle.rules.specs.Index.{Entry, typeFile, fileType, directoryType, runType, liveType}
+use Rattle.rules.specs.Index.{Entry, typeFile, runType, liveType}
 use Rattle.rules.specs.Refusals.{need, accepted, Volume, entries, judge}
 use Rattle.rules.specs.Refusals.Laws.{need-true, need-false, found-some, judge-opens, Opens}
 use Rattle.rules.specs.Outcome.{Outcome, done, conclude, noneListed, numbersOf, ListedNumbers}
 use Rattle.rules.specs.Outcome.Laws.{denied, conclude-refused, conclude-accepted, volume-judged}
 use Rattle.rules.specs.Reading.{fileBytes, listed, readOf, listOf}
-use Rattle.laws.proofs.Lists.Every.{all-first, first-says, First}
-use Rattle.laws.proofs.Entries.Regions.{sound-says, file-region, FileRegion, region-bytes}
+use Rattle.laws.proofs.Lists.Every.{all-first, first-says}
+use Rattle.laws.proofs.Entries.Regions.{sound-says, file-region, kind-file}
+use Rattle.laws.proofs.Images.Areas.{file-inside}
 use Rattle.judging.specs.View.{Opened, volumeOf}
-use native.Mathlib.Nat.{mul-le-mul-right}
 use Rattle.geometry.specs.View.{geometryView}
 use Rattle.geometry.specs.declared.Geometry.{Geometry as Held}
-use Rattle.index.specs.declared.Head.{Head}
-use Rattle.index.specs.View.{headView}
-
-file-kind : (t : ℕ) → t ≡ typeFile → fileType t ≡ true
-unfolding fileType
-file-kind t e = rw e
+use Rattle.slots.specs.declared.Head.{Head}
+use Rattle.slots.specs.View.{headView}
 
 -- ---- read, from the entry on
 unfoldable pub readEntry : List ℕ → Geometry → Entry → List ℕ → Outcome ℕ
@@ -76,11 +70,7 @@ module _ (s : List ℕ) (g : Held) (opened : Opened s g) (path : List ℕ) where
       good = all-first (λ e. regionGood (geometryView g) e ≡ true) (liveAt path) es (headView s h) (sound-says (geometryView g) es (o .regions-sound) .each) (first-says (liveAt path) es (headView s h) f)
 
       within : h .kind ≡ typeFile → h .start .0 * blockLength (geometryView g) + h .length ≤ length s
-      within k =
-          let b : ℕ = blockLength (geometryView g) in
-          let r : FileRegion (geometryView g) (headView s h) = file-region (geometryView g) (headView s h) (file-kind (h .kind) k) good in
-          let u : headView s h .end * b ≤ dataEnd (geometryView g) * b = mul-le-mul-right b (r .upper) in
-          omega (arith, r .fits, region-bytes (headView s h) b (r .order), u, areas-fit (length s) (geometryView g) (o .geometry-good))
+      within k = file-inside (length s) (geometryView g) (headView s h) (o .geometry-good) (file-region (geometryView g) (headView s h) (kind-file (h .kind) k) good)
 
   pub read-found : (e : Entry) (out : List ℕ) → pathGood path ≡ true → lookup path (entries (volumeOf s (geometryView g))) ≡ some e
       → readOf s path out ≡ readEntry s (geometryView g) e out

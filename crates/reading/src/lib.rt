@@ -5,23 +5,26 @@ use contracts::Entry;
 use contracts::Listed;
 use contracts::Volume;
 use geometry::Geometry;
-use index::Head;
 use judging::Judged;
 use paths::Search;
+use slots::Head;
+use units::Slot;
 ghost use mathlib.Core.Path.{_≡_};
 ghost use mathlib.Core.Bool.{true};
 ghost use mathlib.Core.List.{List, []};
-ghost use Prim.Native.Nat.{ℕ, _+_, _≤_};
+ghost use Prim.Native.Nat.{ℕ, _≤_};
 ghost use lib.ListN.{length};
+ghost use Rattle.rules.specs.Paths.{lookup};
+ghost use Rattle.rules.specs.Refusals.{entries};
 ghost use Rattle.rules.specs.Outcome.{noVolume, noEntry, noneListed, numbersOf};
 ghost use Rattle.rules.specs.Outcome.Laws.{denied};
 ghost use Rattle.rules.specs.Reading.{volumeNumbers};
 ghost use Rattle.rules.specs.Index.{volumeName, runType};
 ghost use Rattle.contracts.specs.Contracts.{OpensVolume, Finds, Lists, Reads, volumeView, volumeAnswer, entryView, entryAnswer, contentView, listedView, listedAnswer};
 ghost use Rattle.geometry.specs.View.{geometryView};
-ghost use Rattle.index.specs.View.{headView};
-ghost use Rattle.index.specs.Steps.{HeadIn};
-ghost use Rattle.judging.specs.View.{Opened};
+ghost use Rattle.slots.specs.View.{headView, HeadIn};
+ghost use Rattle.paths.specs.View.{Searched};
+ghost use Rattle.judging.specs.View.{Opened, volumeOf};
 ghost use Rattle.reading.specs.Found.{FileIn, readEntry, listEntry};
 
 // ---- open
@@ -48,7 +51,6 @@ fn volume_numbers(img: &[u8], g: Geometry, n: usize) -> Volume
     requires { ⌜ (64 ≤ length (now img)) × (g .field ≤ 5) × (n ≡ length (volumeName (now img))) ⌝ }
     ensures { λ r. ⌜ (r .refusal ≡ 0) × (volumeAnswer r ≡ volumeNumbers (now (img .entry)) (geometryView g)) ⌝ }
 {
-    let at = img.len() - 60;
     Volume {
         refusal: 0,
         version: g.version as u32,
@@ -58,7 +60,7 @@ fn volume_numbers(img: &[u8], g: Geometry, n: usize) -> Volume
         data: g.data,
         index: g.index,
         stamp: stamps::from_bits(g.stamp),
-        volume_stamp: stamps::from_bits(fields::le64_at(img, at)),
+        volume_stamp: stamps::from_bits(ends::volume_stamp(img)),
         name_length: n as u64,
     }
 }
@@ -67,13 +69,12 @@ fn open_volume(img: &[u8], g: Geometry, out: &mut [u8]) -> Volume
     requires { ⌜ Opened (now img) g ⌝ }
     ensures { λ r. ⌜ OpensVolume (now (img .entry)) (now (out .entry)) r (now (out .exit)) ⌝ }
 {
-    let n = super_block::volume_name_len(img);
+    let name = ends::volume_name(img);
+    let n = name.len();
     if out.len() < n {
         return no_volume(18);
     }
-    let at = img.len() - 52;
-    let end = at + n;
-    copying::copy_into(out, &img[at..end]);
+    copying::copy_into(out, name);
     volume_numbers(img, g, n)
 }
 
@@ -87,6 +88,15 @@ pub fn open(img: &[u8], out: &mut [u8]) -> Volume
 }
 
 // ---- find
+
+// The live entry of the path.
+fn look_up(img: &[u8], g: Geometry, path: &[u8]) -> Search
+    requires { ⌜ Opened (now img) g ⌝ }
+    ensures { λ r. ⌜ Searched (now (img .entry)) (lookup (now (path .entry)) (entries (volumeOf (now (img .entry)) (geometryView g)))) r ⌝ }
+{
+    let from = super_block::first_slot(img, g);
+    paths::lookup(img, from, path)
+}
 
 fn no_entry(n: u32) -> Entry
     ensures { λ r. ⌜ ((s : List ℕ) → entryView s r ≡ denied noEntry s [] n) ⌝ }
@@ -108,9 +118,9 @@ fn entry_numbers(h: Head) -> Entry
     Entry {
         refusal: 0,
         kind: h.kind as u32,
-        slot: h.slot.0,
-        start: h.start.0,
-        end: h.end.0,
+        slot: h.slot.number(),
+        start: h.start.number(),
+        end: h.end.number(),
         length: h.length,
         stamp: stamps::from_bits(h.stamp),
     }
@@ -123,8 +133,7 @@ fn find_entry(img: &[u8], g: Geometry, path: &[u8]) -> Entry
     if !names::path_good(path) {
         return no_entry(10);
     }
-    let from = super_block::first_slot(img, g);
-    match paths::lookup(img, from, path) {
+    match look_up(img, g, path) {
         Search::Nothing => no_entry(11),
         Search::Entry(h) => entry_numbers(h),
     }
@@ -155,16 +164,15 @@ fn read_file(img: &[u8], g: Geometry, h: Head, out: &mut [u8]) -> Content
     requires { ⌜ Opened (now img) g × FileIn (now img) g h ⌝ }
     ensures { λ r. ⌜ contentView (now (img .entry)) (now (out .exit)) r ≡ readEntry (now (img .entry)) (geometryView g) (headView (now (img .entry)) h) (now (out .entry)) ⌝ }
 {
-    if h.kind != 0x12 {
+    if h.kind != slots::FILE {
         return no_content(17);
     }
     let n = h.length;
     if (out.len() as u64) < n {
         return no_content(18);
     }
-    let at = (h.start.0 * g.block_length()) as usize;
-    let end = at + n as usize;
-    copying::copy_into(out, &img[at..end]);
+    let at = h.start.offset(g.block_length());
+    copying::copy_out(out, img, at, n as usize);
     Content {
         refusal: 0,
         length: n,
@@ -178,8 +186,7 @@ fn read_entry(img: &[u8], g: Geometry, path: &[u8], out: &mut [u8]) -> Content
     if !names::path_good(path) {
         return no_content(10);
     }
-    let from = super_block::first_slot(img, g);
-    match paths::lookup(img, from, path) {
+    match look_up(img, g, path) {
         Search::Nothing => no_content(11),
         Search::Entry(h) => read_file(img, g, h, out),
     }
@@ -214,14 +221,15 @@ fn none_listed(n: u32) -> Listed
 fn listed_numbers(h: Head, n: usize) -> Listed
     ensures { λ r. ⌜ (r .refusal ≡ 0) × ((s : List ℕ) → listedAnswer r ≡ record { found = numbersOf (headView s h); pathLength = n }) ⌝ }
 {
+    let e = entry_numbers(h);
     Listed {
-        refusal: 0,
-        kind: h.kind as u32,
-        slot: h.slot.0,
-        start: h.start.0,
-        end: h.end.0,
-        length: h.length,
-        stamp: stamps::from_bits(h.stamp),
+        refusal: e.refusal,
+        kind: e.kind,
+        slot: e.slot,
+        start: e.start,
+        end: e.end,
+        length: e.length,
+        stamp: e.stamp,
         path_length: n as u64,
     }
 }
@@ -231,20 +239,18 @@ fn list_entry(img: &[u8], h: Head, out: &mut [u8]) -> Listed
     requires { ⌜ HeadIn (now img) h × (runType (h .kind) ≡ true) ⌝ }
     ensures { λ r. ⌜ listedView (now (img .entry)) (now (out .exit)) r ≡ listEntry (now (img .entry)) (headView (now (img .entry)) h) (now (out .entry)) ⌝ }
 {
-    let name = paths::name_of(img, h);
-    let n = name.len;
+    let path = slots::path_of(img, h);
+    let n = path.len();
     if out.len() < n {
         return none_listed(18);
     }
-    let at = name.at;
-    let end = at + n;
-    copying::copy_into(out, &img[at..end]);
+    copying::copy_into(out, path);
     listed_numbers(h, n)
 }
 
-fn list_from(img: &[u8], g: Geometry, slot: u64, out: &mut [u8]) -> Listed
+fn list_from(img: &[u8], g: Geometry, slot: Slot, out: &mut [u8]) -> Listed
     requires { ⌜ Opened (now img) g ⌝ }
-    ensures { λ r. ⌜ Lists (now (img .entry)) slot (now (out .entry)) r (now (out .exit)) ⌝ }
+    ensures { λ r. ⌜ Lists (now (img .entry)) (slot .0) (now (out .entry)) r (now (out .exit)) ⌝ }
 {
     let from = super_block::first_slot(img, g);
     match paths::next_live(img, from, slot) {
@@ -258,6 +264,6 @@ pub fn list(img: &[u8], slot: u64, out: &mut [u8]) -> Listed
 {
     match judging::judge(img) {
         Judged::Refused(n) => none_listed(n as u32),
-        Judged::Good(g) => list_from(img, g, slot, out),
+        Judged::Good(g) => list_from(img, g, Slot::at(slot), out),
     }
 }

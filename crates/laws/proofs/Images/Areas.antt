@@ -14,7 +14,7 @@ use Rattle.rules.specs.SuperBlock.Laws.{GoodGeometry, areas-fit}
 use Rattle.rules.specs.Index.{Entry, fileType, slotAt, slotBytes, innerSlots, identifierAt}
 use Rattle.rules.specs.Regions.{regionGood, blocksOf}
 use Rattle.rules.specs.Reading.{fileBytes}
-use Rattle.laws.proofs.Entries.Regions.{Within, Regionless, file-says, region-bytes}
+use Rattle.laws.proofs.Entries.Regions.{Within, Regionless, FileRegion, file-says, region-bytes}
 use Rattle.laws.proofs.Entries.Walked.{Bare}
 use Rattle.laws.proofs.Index.Slots.{slot-at, identifier-at, inner-slots}
 use Rattle.laws.proofs.Images.Kept.{Between}
@@ -47,6 +47,11 @@ within-in n g e good w = record {
   order = region-bytes e (blockLength g) (omega (arith, w .some));
   high = omega (arith, mul-le-mul-right (blockLength g) (w .high), areas-fit n g good);
 }
+
+-- a file's bytes lie in the image
+pub file-inside : (n : ℕ) (g : Geometry) (e : Entry) → GoodGeometry n g → FileRegion g e → e .start * blockLength g + e .length ≤ n
+file-inside n g e good r =
+    omega (arith, r .fits, region-bytes e (blockLength g) (r .order), mul-le-mul-right (blockLength g) (r .upper), areas-fit n g good)
 
 -- an entry has no bytes, or they lie in the blocks of its region
 pub bytes-in : (g : Geometry) (e : Entry) → Bare e → regionGood g e ≡ true → (e .length ≡ 0) ⊎ (Within g e × (e .length ≤ blocksOf e * blockLength g))

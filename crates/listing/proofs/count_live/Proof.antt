@@ -32,13 +32,15 @@ enum-told c = search needs
 returns : tie.Need-returns Inv-loop μ-loop
 returns c = omega (arith, live-end _ (told-end _ _ _ (c .before .before .next-entry .ensures) (c .enum-told .given .1)), c .before .before .before .loop .inv .1)
 
-step : (c : tie.After-h Inv-loop μ-loop) → Step (now (c .before .before .before .before .before .args .img)) (c .before .before .before .loop .c) (c .h .given .0 .0) (c .h .given .0 .1 .0)
+step : (c : tie.After-h Inv-loop μ-loop) → let l = c .before .before .before in Step (now (l .before .before .args .img)) (l .loop .c) (c .h .given .0 .0) (c .h .given .0 .1 .0)
 step c = told-found _ _ _ (c .before .before .next-entry .ensures) _ _ (c .h .given .1)
 
 -- what is left, one entry further
-rest : (c : tie.After-live-one Inv-loop μ-loop) → let s = now (c .before .before .before .before .before .before .before .args .img) in
-    length (only isLive (entriesFrom s (c .before .before .before .before .before .loop .c))) ≡ c .live-one .result + length (only isLive (entriesFrom s (c .before .before .h .given .0 .1 .0)))
-rest c = omega (arith, live-next _ _ _ (step (c .before .before) .entries), c .live-one .ensures .0 (now (c .before .before .before .before .before .before .before .args .img)))
+rest : (c : tie.After-live-one Inv-loop μ-loop) → let l = c .before .before .before .before .before in
+    let s = now (l .before .before .args .img) in
+    length (only isLive (entriesFrom s (l .loop .c))) ≡ c .live-one .result + length (only isLive (entriesFrom s (c .before .before .h .given .0 .1 .0)))
+rest c = let h = c .before .before in
+    omega (arith, live-next _ _ _ (step h .entries), c .live-one .ensures .0 (now (h .before .before .before .before .before .args .img)))
 
 enum-known-h : tie.Need-enum-known-h Inv-loop μ-loop
 enum-known-h c = search needs

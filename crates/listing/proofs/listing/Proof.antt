@@ -12,6 +12,9 @@ use borrow.Author.Needs.{needs}
 use Rattle.listing.proofs.listing.Statement.{statement}
 use Rattle.listing.proofs.listing.Tie as tie
 
+abbrev start : tie.After-judge → tie.Start
+start c = c .before .before .before .before
+
 -- every element of a lent image is a byte
 fits : (c : tie.After-shared-slice-known) → length (listingOf (now (c .before .args .img))) ≤ 131_000
 fits c = listing-fits (now (c .before .args .img)) (λ i. c .shared-slice-known .given i .fits)
@@ -20,10 +23,10 @@ fits c = listing-fits (now (c .before .args .img)) (λ i. c .shared-slice-known 
 long : (c : tie.Then1) → listingOf (now (c .before .before .before .args .img)) ≡ refusedLine 1
 long c = listing-long _ (c .if1 .taken)
 
-refused : (c : tie.After-n) → listingOf (now (c .before .before .before .before .before .before .args .img)) ≡ refusedLine (c .n .given .0 .0)
+refused : (c : tie.After-n) → listingOf (now (start (c .before .before) .args .img)) ≡ refusedLine (c .n .given .0 .0)
 refused c = listing-refused _ (c .before .before .before .if1 .left) _ (refused-says _ _ (c .before .before .judge .ensures) _ (c .n .given .1))
 
-opened : (c : tie.After-g) → listingOf (now (c .before .before .before .before .before .before .args .img)) ≡ openedText (now (c .before .before .before .before .before .before .args .img)) (c .g .given .0 .0)
+opened : (c : tie.After-g) → let s = now (start (c .before .before) .args .img) in listingOf s ≡ openedText s (c .g .given .0 .0)
 opened c = listing-opened _ (c .before .before .before .if1 .left) _ (good-says _ _ (c .before .before .judge .ensures) _ (c .g .given .1))
 
 put-refused-requires : tie.Need-put-refused-requires

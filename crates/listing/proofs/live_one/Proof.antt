@@ -2,7 +2,7 @@ use mathlib.Core.Path.{sym, _∙_}
 use native.Mathlib.Omega.{arith}
 use Rattle.rules.specs.Lists.Laws.{pick-true, pick-false}
 use Rattle.rules.specs.Paths.{isLive}
-use Rattle.index.specs.View.{headView}
+use Rattle.slots.specs.View.{headView}
 use Rattle.listing.specs.Lines.{liveOne}
 use Rattle.listing.proofs.live_one.Statement.{statement}
 use Rattle.listing.proofs.live_one.Tie as tie

@@ -19,7 +19,7 @@ returns : tie.Need-returns
 returns c =
     let b₂ = c .before .before in
     let b₁ = b₂ .before .before .before .before in
-    let w = rw (wide-one (c .before .before .before .before .before .before .before .before .before .before .args .n)) at (b₂ .put-number .ensures) in
+    let w = rw (wide-one (b₁ .before .before .before .before .args .n)) at (b₂ .put-number .ensures) in
     wrote-both _ _ _ _ _ _ _ _ (omega arith) (b₁ .put-bytes .ensures) w
 
 pub put-counted-spec : {M : Type 1} → statement M

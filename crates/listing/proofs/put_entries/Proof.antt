@@ -11,6 +11,9 @@ use borrow.Author.Needs.{needs}
 use Rattle.listing.proofs.put_entries.Statement.{statement}
 use Rattle.listing.proofs.put_entries.Tie as tie
 
+abbrev start : tie.After-put-lines → tie.Start
+start c = c .before .before .before .before
+
 put-lines-requires : tie.Need-put-lines-requires
 put-lines-requires c κs =
     let s = c .before .before .before in
@@ -23,13 +26,13 @@ count-live-requires c κs = search needs
 held-blocks-requires : tie.Need-held-blocks-requires
 held-blocks-requires c κs = search needs
 
-counted : (c : tie.After-held-blocks) → let a = c .before .before .before .before .before .before .before .before .args in
+counted : (c : tie.After-held-blocks) → let a = start (c .before .before .before .before) .args in
     countText (c .before .count-live .result) (c .held-blocks .result) ≡ countLine (entriesFrom (now (a .img)) (a .from))
 counted c = count-is _ _ _ (c .before .count-live .ensures) (c .held-blocks .ensures)
 
 put-count-requires : tie.Need-put-count-requires
 put-count-requires c κs =
-    let a = c .before .before .before .before .before .before .before .before .before .args in
+    let a = start (c .before .before .before .before .before) .args in
     let es = entriesFrom (now (a .img)) (a .from) in
     omega (arith, length-append (liveText es) (countLine es), ap length (counted (c .before)))
 
@@ -40,7 +43,7 @@ returns : tie.Need-returns
 returns c =
     let b₂ = c .before .before in
     let b₁ = b₂ .before .before .before .before .before .before in
-    let a = b₁ .before .before .before .before .args in
+    let a = start b₁ .args in
     let es = entriesFrom (now (a .img)) (a .from) in
     let n = length-append (liveText es) (countLine es) in
     wrote-both _ _ _ _ _ _ _ _ (omega (arith, ap length (counted (b₂ .before .before)))) (b₁ .put-lines .ensures) (wrote-as _ _ _ _ _ _ (counted (b₂ .before .before)) (b₂ .put-count .ensures))

@@ -3,7 +3,7 @@ use mathlib.Core.Path.{_≡_, refl, ap, _∙_}
 use native.Mathlib.Omega.{arith}
 use denote.Ref.{now}
 use lib.ListN.{length, length-append}
-use Rattle.index.specs.View.{headView}
+use Rattle.slots.specs.View.{headView}
 use Rattle.index.specs.Steps.{Walks, Step, entriesFrom}
 use Rattle.index.specs.Turns.{told-end, told-found}
 use Rattle.listing.specs.Lines.{entryText, liveText, text-end, text-next, Left, left-none, left-next}
@@ -32,7 +32,7 @@ same-length c = search needs
 returns : tie.Need-returns Inv-loop μ-loop
 returns c = left-none _ _ _ _ _ _ (text-end _ (told-end _ _ _ (c .before .before .next-entry .ensures) (c .enum-told .given .1))) (c .before .before .before .loop .inv .1)
 
-step : (c : tie.After-h Inv-loop μ-loop) → Step (now (c .before .before .before .before .before .before .args .img)) (c .before .before .before .loop .c) (c .h .given .0 .0) (c .h .given .0 .1 .0)
+step : (c : tie.After-h Inv-loop μ-loop) → let l = c .before .before .before in Step (now (l .before .before .before .args .img)) (l .loop .c) (c .h .given .0 .0) (c .h .given .0 .1 .0)
 step c = told-found _ _ _ (c .before .before .next-entry .ensures) _ _ (c .h .given .1)
 
 -- what is left, one entry further
@@ -45,7 +45,8 @@ enum-known-h c = search needs
 
 put-entry-requires : tie.Need-put-entry-requires Inv-loop μ-loop
 put-entry-requires c κs = let h = c .before .before in
-    (step h .head, omega (arith, rest h, h .before .before .before .loop .inv .1, h .before .before .before .before .before .before .pre .1))
+    let l = h .before .before .before in
+    (step h .head, omega (arith, rest h, l .loop .inv .1, l .before .before .before .pre .1))
 
 loop-less : tie.Need-loop-less Inv-loop μ-loop
 loop-less c = step (c .before .before .before .before .before) .less
@@ -53,8 +54,8 @@ loop-less c = step (c .before .before .before .before .before) .less
 loop-again : tie.Need-loop-again Inv-loop μ-loop
 loop-again c =
     let h = c .before .before .before .before .before in
-    let l = h .before .before .before .loop in
-    (step h .walks, left-next _ _ _ _ _ _ _ _ _ _ (text-next _ _ _ (step h .entries)) (omega (arith, l .inv .1, h .before .before .before .before .before .before .pre .1)) (omega arith) (l .inv .1) (c .before .before .put-entry .ensures))
+    let l = h .before .before .before in
+    (step h .walks, left-next _ _ _ _ _ _ _ _ _ _ (text-next _ _ _ (step h .entries)) (omega (arith, l .loop .inv .1, l .before .before .before .pre .1)) (omega arith) (l .loop .inv .1) (c .before .before .put-entry .ensures))
 
 pub put-lines-spec : {M : Type 1} → statement M
 put-lines-spec =

@@ -2,11 +2,14 @@ use native.Mathlib.Omega.{arith}
 use mathlib.Core.Path.{ap}
 use denote.Ref.{now}
 use lib.ListN.{length, length-append}
-use Rattle.index.specs.View.{headView}
+use Rattle.slots.specs.View.{headView}
 use Rattle.rules.specs.Text.{text}
 use Rattle.text.specs.Wrote.{wrote-both}
 use Rattle.listing.proofs.put_path.Statement.{statement}
 use Rattle.listing.proofs.put_path.Tie as tie
+
+abbrev start : tie.After-put-byte → tie.Start
+start c = c .before .before .before .before
 
 put-byte-requires : tie.Need-put-byte-requires
 put-byte-requires c κs = omega arith
@@ -15,12 +18,13 @@ path-of-requires : tie.Need-path-of-requires
 path-of-requires c κs = let s = c .before .before .before .before .before .before .before in (s .pre .0, s .pre .1)
 
 put-bytes-requires : tie.Need-put-bytes-requires
-put-bytes-requires c κs = let a = c .before .before .before .before .before .before .before .before .args in
+put-bytes-requires c κs = let a = start (c .before .before .before .before) .args in
     omega (arith, length-append (headView (now (a .img)) (a .h) .path) (text "\n"), ap length (c .path-of .ensures))
 
 put-byte-requires-2 : tie.Need-put-byte-requires-2
-put-byte-requires-2 c κs = let a = c .before .before .before .before .before .before .before .before .before .before .before .before .args in
-    omega (arith, length-append (headView (now (a .img)) (a .h) .path) (text "\n"), ap length (c .before .before .before .before .path-of .ensures))
+put-byte-requires-2 c κs = let p = c .before .before .before .before in
+    let a = start (p .before .before .before .before) .args in
+    omega (arith, length-append (headView (now (a .img)) (a .h) .path) (text "\n"), ap length (p .path-of .ensures))
 
 same-length : tie.Need-same-length
 same-length c = omega arith
@@ -30,7 +34,7 @@ returns c =
     let b₃ = c .before .before in
     let b₂ = b₃ .before .before .before .before in
     let b₁ = b₂ .before .before .before .before .before in
-    let a = b₁ .before .before .before .before .args in
+    let a = start b₁ .args in
     let p = headView (now (a .img)) (a .h) .path in
     let n = length-append p (text "\n") in
     let w = rw (b₂ .before .path-of .ensures) at (b₂ .put-bytes .ensures) in

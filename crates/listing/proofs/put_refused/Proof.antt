@@ -26,7 +26,7 @@ unfolding refusedLine
 returns c =
     let b₂ = c .before .before in
     let b₁ = b₂ .before .before .before .before in
-    wrote-both _ _ _ _ _ _ _ _ (omega (arith, length-append (decimal (c .before .before .before .before .before .before .before .before .before .before .args .n)) (text "\n"))) (b₁ .put-counted .ensures) (b₂ .put-byte .ensures)
+    wrote-both _ _ _ _ _ _ _ _ (omega (arith, length-append (decimal (b₁ .before .before .before .before .args .n)) (text "\n"))) (b₁ .put-counted .ensures) (b₂ .put-byte .ensures)
 
 pub put-refused-spec : {M : Type 1} → statement M
 put-refused-spec = tie.close (tie.spec slice-aggregate-put-counted put-counted-requires put-byte-requires same-length returns)

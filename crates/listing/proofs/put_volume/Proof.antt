@@ -12,6 +12,9 @@ use borrow.Author.Needs.{needs}
 use Rattle.listing.proofs.put_volume.Statement.{statement}
 use Rattle.listing.proofs.put_volume.Tie as tie
 
+abbrev start : tie.After-put-name → tie.Start
+start c = c .before .before .before .before
+
 put-name-requires : tie.Need-put-name-requires
 put-name-requires c κs =
     let s = c .before .before .before in
@@ -19,17 +22,17 @@ put-name-requires c κs =
     (omega (arith, opened-long img _ (s .pre .0)), omega (arith, length-append (nameText img) (entriesText (entries (volumeOf img (geometryView (s .args .g)))))))
 
 first-slot-requires : tie.Need-first-slot-requires
-first-slot-requires c κs = opened-super _ _ (c .before .before .before .before .before .before .pre .0)
+first-slot-requires c κs = opened-super _ _ (start (c .before .before) .pre .0)
 
 -- the entries from the first slot on are the volume's
-same-entries : (c : tie.After-first-slot) → let s = c .before .before .before .before .before .before .before in
+same-entries : (c : tie.After-first-slot) → let s = start (c .before .before .before) in
     entriesFrom (now (s .args .img)) (c .first-slot .result) ≡ entries (volumeOf (now (s .args .img)) (geometryView (s .args .g)))
-same-entries c = let s = c .before .before .before .before .before .before .before in
+same-entries c = let s = start (c .before .before .before) in
     opened-entries _ _ (s .pre .0) (c .first-slot .result) (c .first-slot .ensures .0)
 
 put-entries-requires : tie.Need-put-entries-requires
 put-entries-requires c κs =
-    let s = c .before .before .before .before .before .before .before .before in
+    let s = start (c .before .before .before .before) in
     let img = now (s .args .img) in
     let f = c .before .first-slot in
     (opened-walks _ _ (s .pre .0) _ (f .ensures .0) (f .ensures .1), opened-held _ _ (s .pre .0) _ (f .ensures .0) (f .ensures .1), omega (arith, length-append (nameText img) (entriesText (entries (volumeOf img (geometryView (s .args .g))))), ap (λ es. length (entriesText es)) (same-entries (c .before))))
@@ -41,7 +44,7 @@ returns : tie.Need-returns
 returns c =
     let b₂ = c .before .before in
     let b₁ = b₂ .before .before .before .before .before in
-    let s = b₁ .before .before .before .before in
+    let s = start b₁ in
     let img = now (s .args .img) in
     let n = length-append (nameText img) (entriesText (entries (volumeOf img (geometryView (s .args .g))))) in
     let w = rw (same-entries (b₂ .before .before)) at (b₂ .put-entries .ensures) in

@@ -1,8 +1,8 @@
+use mathlib.Core.Path.{refl}
 use mir.Syntax.{w64}
 use mir.ValLaws.{toZ-ofZ}
 use Rattle.rules.specs.Outcome.{numbersOf}
-use Rattle.index.specs.View.{headView}
-use mathlib.Core.Path.{refl}
+use Rattle.slots.specs.View.{headView}
 use borrow.Author.Needs.{needs}
 use Rattle.reading.proofs.entry_numbers.Statement.{statement}
 use Rattle.reading.proofs.entry_numbers.Tie as tie
@@ -10,12 +10,23 @@ use Rattle.reading.proofs.entry_numbers.Tie as tie
 cast-t2 : tie.Need-cast-t2
 cast-t2 c = search needs
 
+number-requires : tie.Need-number-requires
+number-requires c κs = search needs
+
+number-requires-2 : tie.Need-number-requires-2
+number-requires-2 c κs = search needs
+
+number-requires-3 : tie.Need-number-requires-3
+number-requires-3 c κs = search needs
+
 from-bits-requires : tie.Need-from-bits-requires
 from-bits-requires c κs = search needs
 
 returns : tie.Need-returns
 unfolding numbersOf headView
-returns c = (refl, λ s. rw (toZ-ofZ w64 (c .from-bits .result) (record { sfits = c .from-bits .ok }), c .from-bits .ensures))
+returns c = let d = c .before in
+    let f = c .from-bits in
+    (refl, λ s. rw (toZ-ofZ w64 (f .result) (record { sfits = f .ok }), f .ensures, d .number3 .ensures, d .before .number2 .ensures, d .before .before .number .ensures))
 
 pub entry-numbers-spec : {M : Type 1} → statement M
-entry-numbers-spec = tie.close (tie.spec cast-t2 from-bits-requires returns)
+entry-numbers-spec = tie.close (tie.spec cast-t2 number-requires number-requires-2 number-requires-3 from-bits-requires returns)

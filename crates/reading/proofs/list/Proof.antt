@@ -20,8 +20,12 @@ none-listed-requires c κs = search needs
 enum-known-g : tie.Need-enum-known-g
 enum-known-g c = search needs
 
+at-requires : tie.Need-at-requires
+at-requires c κs = search needs
+
 list-from-requires : tie.Need-list-from-requires
-list-from-requires c κs = good-says _ _ (c .before .before .before .before .judge .ensures) _ (c .before .before .g .given .1)
+list-from-requires c κs = let g = c .before .before .before in
+    good-says _ _ (g .before .before .judge .ensures) _ (g .g .given .1)
 
 returns : tie.Need-returns
 returns c = c .none-listed .ensures _ _ ∙ sym (list-refused _ _ (refused-says _ _ (c .before .before .before .before .judge .ensures) _ (c .before .before .n .given .1)) _ _)
@@ -30,18 +34,8 @@ same-length : tie.Need-same-length
 same-length c = search needs
 
 returns-2 : tie.Need-returns-2
-returns-2 c = search needs
+returns-2 c = let l = c .before .before in
+    rw (l .before .before .at .ensures) at (l .list-from .ensures)
 
 pub list-spec : {M : Type 1} → statement M
-list-spec =
-    tie.close
-    (tie.spec
-    judge-requires
-    enum-known-n
-    cast-none-listed
-    none-listed-requires
-    enum-known-g
-    list-from-requires
-    returns
-    same-length
-    returns-2)
+list-spec = tie.close (tie.spec judge-requires enum-known-n cast-none-listed none-listed-requires enum-known-g at-requires list-from-requires returns same-length returns-2)

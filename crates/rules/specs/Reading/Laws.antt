@@ -1,11 +1,11 @@
--- Laws of the reading calls: one for each way that a call can end.
+-- Laws of the reading calls: the ways that a call can end. Of an entry that read or list found, the code's crate has the other ends.
 use Prim.Native.Nat.{ℕ, _≤_, _<_}
 use mathlib.Core.Path.{_≡_, ap, _∙_}
 use mathlib.Core.Bool.{true, false}
 use mathlib.Core.List.{List, []}
 use mathlib.Core.Option.{none, some}
 use lib.ListN.{length}
-use borrow.Author.Tests.{le-leb, lt-leb, eq-eqb, ne-eqb}
+use borrow.Author.Tests.{le-leb, lt-leb, eq-eqb}
 use Rattle.rules.specs.Fields.{splice}
 use Rattle.rules.specs.Names.{pathGood}
 use Rattle.rules.specs.Index.{Entry, volumeName, typeFile}
@@ -63,41 +63,18 @@ module _ (s : List ℕ) (v : Volume) (opens : judge s ≡ accepted v) where
       unfolding readOf
       read-name p = volume-denied 0 s out _ v 10 opens (need-false 10 _ p)
 
-      module _ (p : pathGood path ≡ true) where
-        pub read-none : lookup path (entries v) ≡ none → readOf s path out ≡ denied 0 s out 11
-        unfolding readOf
-        read-none e = volume-denied 0 s out _ v 11 opens (need-true 10 _ p ∙ found-none 11 _ e)
+      pub read-none : pathGood path ≡ true → lookup path (entries v) ≡ none → readOf s path out ≡ denied 0 s out 11
+      unfolding readOf
+      read-none p e = volume-denied 0 s out _ v 11 opens (need-true 10 _ p ∙ found-none 11 _ e)
 
-        module _ (e : Entry) (f : lookup path (entries v) ≡ some e) where
-          pub read-directory : (e .kind ≡ typeFile → ⊥) → readOf s path out ≡ denied 0 s out 17
-          unfolding readOf
-          read-directory d = volume-denied 0 s out _ v 17 opens (need-true 10 _ p ∙ found-some 11 _ f ∙ need-false 17 _ (ne-eqb (e .kind) typeFile d))
-
-          pub read-short : e .kind ≡ typeFile → length out < e .length → readOf s path out ≡ denied 0 s out 18
-          unfolding readOf
-          read-short k h =
-              volume-denied 0 s out _ v 18 opens
-              (need-true 10 _ p ∙ found-some 11 _ f ∙ need-true 17 _ (eq-eqb (e .kind) typeFile k) ∙ need-false 18 _ (lt-leb (e .length) (length out) h))
-
-          pub read-done : e .kind ≡ typeFile → e .length ≤ length out
-              → readOf s path out ≡ done (e .length) s (splice out 0 (fileBytes s (v .geometry) e))
-          unfolding readOf
-          read-done k h =
-              volume-done 0 s out _ v _ opens
-              (need-true 10 _ p ∙ found-some 11 _ f ∙ need-true 17 _ (eq-eqb (e .kind) typeFile k) ∙ need-true 18 _ (le-leb (e .length) (length out) h))
+      pub read-done : (e : Entry) → pathGood path ≡ true → lookup path (entries v) ≡ some e → e .kind ≡ typeFile → e .length ≤ length out
+          → readOf s path out ≡ done (e .length) s (splice out 0 (fileBytes s (v .geometry) e))
+      unfolding readOf
+      read-done e p f k h =
+          volume-done 0 s out _ v _ opens
+          (need-true 10 _ p ∙ found-some 11 _ f ∙ need-true 17 _ (eq-eqb (e .kind) typeFile k) ∙ need-true 18 _ (le-leb (e .length) (length out) h))
 
   module _ (slot : ℕ) (out : List ℕ) where
     pub list-none : nextLive slot (entries v) ≡ none → listOf s slot out ≡ done noneListed s out
     unfolding listOf listed
     list-none e = volume-done noneListed s out _ v _ opens (ap (listed s out) e)
-
-    pub list-short : (e : Entry) → nextLive slot (entries v) ≡ some e → length out < length (e .path) → listOf s slot out ≡ denied noneListed s out 18
-    unfolding listOf listed
-    list-short e f h =
-        volume-denied noneListed s out _ v 18 opens (ap (listed s out) f ∙ need-false 18 _ (lt-leb (length (e .path)) (length out) h))
-
-    pub list-done : (e : Entry) → nextLive slot (entries v) ≡ some e → length (e .path) ≤ length out
-        → listOf s slot out ≡ done (record { found = numbersOf e; pathLength = length (e .path) }) s (splice out 0 (e .path))
-    unfolding listOf listed
-    list-done e f h =
-        volume-done noneListed s out _ v _ opens (ap (listed s out) f ∙ need-true 18 _ (le-leb (length (e .path)) (length out) h))
