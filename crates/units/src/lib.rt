@@ -12,13 +12,13 @@ pub const LONGEST: u64 = 16_777_216;
 pub const SLOT_BYTES: u64 = 64;
 
 // A block number, from the start of the media, or the block past a region's end.
-pub struct Block(pub u64);
+pub struct Block(u64);
 
 // A slot number of the index area.
-pub struct Slot(pub u64);
+pub struct Slot(u64);
 
 // A place in the image, in bytes.
-pub struct Offset(pub usize);
+pub struct Offset(usize);
 
 impl Block {
     // The block of this number, as it is stored or given.
