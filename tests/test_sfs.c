@@ -305,6 +305,7 @@ static void full_volume(void) {
     char path[] = "empty0";
     CHECK(sfs_format(image, 65536, 512, 2, NULL, 0, 0) == SFS_OK);
     CHECK(sfs_create_file(image, 65536, B("big"), bytes, 64001, 0) == SFS_NO_BLOCKS);
+    CHECK(sfs_create_file(image, 65536, B("big"), bytes, SIZE_MAX, 0) == SFS_NO_BLOCKS); /* rounded up without a sum */
     CHECK(sfs_create_file(image, 65536, B("big"), bytes, 64000, 0) == SFS_OK);
     for (int i = 0; i < 5; i++) {
         path[5] = (char)('0' + i);
