@@ -29,7 +29,7 @@ ghost use Rattle.listing.specs.Lines.{numbersText, dateText, pathText, e
 ghost use Rattle.listing.specs.Volume.{countText, nameText, entriesText, openedText};
 
 // The longest image that is listed, and the room that its text asks for.
-const LONGEST: usize = 65_536;
+pub const LONGEST: usize = 65_536;
 
 pub const ROOM: usize = 131_072;
 
