@@ -97,16 +97,16 @@ wrote-counts s xs t end h (e, f) =
     (omega arith, omega (arith, length-take end t))
 
 -- ---- writing goes on: ys are still to be written into t from `at` on, and then s has xs from o on
-abbrev pub Left : List ℕ → ℕ → List ℕ → List ℕ → ℕ → List ℕ → Type 0
-Left s o xs t at ys = (length t ≡ length s) × (at + length ys ≡ o + length xs) × (splice t at ys ≡ splice s o xs)
+abbrev pub ToWrite : List ℕ → ℕ → List ℕ → List ℕ → ℕ → List ℕ → Type 0
+ToWrite s o xs t at ys = (length t ≡ length s) × (at + length ys ≡ o + length xs) × (splice t at ys ≡ splice s o xs)
 
 -- nothing is left
-pub left-none : (s : List ℕ) (o : ℕ) (xs t : List ℕ) (at : ℕ) (ys : List ℕ) → ys ≡ [] → Left s o xs t at ys → Wrote s o xs t at
+pub left-none : (s : List ℕ) (o : ℕ) (xs t : List ℕ) (at : ℕ) (ys : List ℕ) → ys ≡ [] → ToWrite s o xs t at ys → Wrote s o xs t at
 left-none s o xs t at ys e (l, n, w) = (sym (splice-nil t at) ∙ (rw e at w), omega (arith, ap length e))
 
 -- the first of what is left was written
 pub left-next : (s : List ℕ) (o : ℕ) (xs t : List ℕ) (at : ℕ) (ys u : List ℕ) (end : ℕ) (zs ws : List ℕ) → ys ≡ zs ++ ws → at + length ys ≤ length t → length u ≡ length t
-    → Left s o xs t at ys → Wrote t at zs u end → Left s o xs u end ws
+    → ToWrite s o xs t at ys → Wrote t at zs u end → ToWrite s o xs u end ws
 left-next s o xs t at ys u end zs ws e f k (l, n, w) (v, m) =
     let lengths : length ys ≡ length zs + length ws = ap length e ∙ length-append zs ws in
     (omega arith, omega arith, rw (v, m) (splice-splice t at zs ws (omega arith) ∙ (rw e at w)))

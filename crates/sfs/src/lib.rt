@@ -86,7 +86,7 @@ pub extern "C" fn sfs_reclaim(image: &mut [u8], stamp: i64) -> u32
 pub extern "C" fn sfs_listing(image: &[u8], out: &mut [u8]) -> u64
     ensures { λ r. ⌜ WritesListing (now (image .entry)) (now (out .entry)) r (now (out .exit)) ⌝ }
 {
-    if out.len() < 131_072 {
+    if out.len() < listing::ROOM {
         return 0;
     }
     listing::listing(image, out) as u64

@@ -8,12 +8,12 @@ use lib.ListN.{length}
 use Rattle.rules.specs.Lists.Laws.{and-true}
 use Rattle.rules.specs.SuperBlock.{Geometry}
 use Rattle.rules.specs.SuperBlock.Laws.{GoodGeometry}
-use Rattle.rules.specs.Index.{slotAt, innerSlots, itemsOf, identifierGood, markerGood, indexSound}
-use Rattle.rules.specs.Index.Walk.{walkAll}
+use Rattle.rules.specs.Index.{itemsOf, identifierGood, markerGood, indexSound}
 use Rattle.rules.specs.Index.Items.{faultless}
 use Rattle.index.specs.View.{Inside, itemsFrom}
 use Rattle.index.specs.Steps.{Walks}
 use Rattle.index.specs.declared.Cursor.{Cursor}
+use Rattle.laws.proofs.Index.Slots.{slot-at, items-walk, inner-slots}
 
 -- ---- the walk between the ends
 module _ (s : List ℕ) (g : Geometry) (c : Cursor) (items : itemsFrom s c ≡ itemsOf s g) where
@@ -28,8 +28,7 @@ module _ (s : List ℕ) (g : Geometry) (c : Cursor) (items : itemsFrom s c ≡ i
 pub first-items : (s : List ℕ) (g : Geometry) (c : Cursor)
     → c .at .0 ≡ length s - g .indexBytes + 64 → c .slot .0 ≡ 1 → c .left ≡ g .indexBytes / 64 - 2
     → itemsFrom s c ≡ itemsOf s g
-unfolding itemsOf innerSlots slotAt walkAll
-first-items s g c at slot left = rw (at, slot, left)
+first-items s g c at slot left = rw (at, slot, left) (sym (items-walk s g ∙ rw (slot-at s g 1, inner-slots g)))
 
 pub first-inside : (s : List ℕ) (g : Geometry) (c : Cursor)
     → GoodGeometry (length s) g → length s ≤ 16_777_216

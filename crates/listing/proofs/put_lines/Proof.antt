@@ -6,13 +6,13 @@ use lib.ListN.{length, length-append}
 use Rattle.slots.specs.View.{headView}
 use Rattle.index.specs.Steps.{Walks, Step, entriesFrom}
 use Rattle.index.specs.Turns.{told-end, told-found}
-use Rattle.listing.specs.Lines.{entryText, liveText, text-end, text-next, Left, left-none, left-next}
+use Rattle.listing.specs.Lines.{entryText, liveText, text-end, text-next, ToWrite, left-none, left-next}
 use borrow.Author.Needs.{needs}
 use Rattle.listing.proofs.put_lines.Statement.{statement}
 use Rattle.listing.proofs.put_lines.Tie as tie
 
 abbrev Inv-loop : tie.InvT-loop
-Inv-loop img out₀ at c₀ end₀ out c end = Walks img c × Left out₀ end₀ (liveText (entriesFrom img c₀)) out end (liveText (entriesFrom img c))
+Inv-loop img out₀ at c₀ end₀ out c end = Walks img c × ToWrite out₀ end₀ (liveText (entriesFrom img c₀)) out end (liveText (entriesFrom img c))
 
 abbrev μ-loop : tie.MeasureT-loop
 μ-loop img out₀ at c₀ end₀ out c end = c .left
