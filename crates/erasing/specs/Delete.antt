@@ -26,28 +26,28 @@ use Rattle.geometry.specs.declared.Geometry.{Geometry as Held}
 use Rattle.slots.specs.declared.Head.{Head}
 use Rattle.slots.specs.View.{headView}
 use Rattle.judging.specs.View.{Opened, volumeOf, opened-super}
-use Rattle.erasing.specs.declared.Doom.{Doom}
-use Rattle.erasing.specs.declared.Doom.the-variants.{Refused, At}
+use Rattle.erasing.specs.declared.DeletePlan.{DeletePlan}
+use Rattle.erasing.specs.declared.DeletePlan.the-variants.{Refused, At}
 
 -- ---- what was planned: the refusal, or the entry that is marked
-unfoldable pub Doomed : List ℕ → List ℕ → Doom → Type 0
-Doomed s path (Refused n) = (z : ℤ) → deleteOf s path z ≡ refusedWrite s n
-Doomed s path (At at t) = (at .0 + slotBytes ≤ length s) × ((z : ℤ) → deleteOf s path z ≡ wrote (retyped s (at .0) (deletedKind t) z))
+unfoldable pub DeletePlanned : List ℕ → List ℕ → DeletePlan → Type 0
+DeletePlanned s path (Refused n) = (z : ℤ) → deleteOf s path z ≡ refusedWrite s n
+DeletePlanned s path (At at t) = (at .0 + slotBytes ≤ length s) × ((z : ℤ) → deleteOf s path z ≡ wrote (retyped s (at .0) (deletedKind t) z))
 
-module _ (s path : List ℕ) (r : Doom) (told : Doomed s path r) where
-  pub doomed-refused : (n : ℕ) → r ≡ Refused n → (z : ℤ) → deleteOf s path z ≡ refusedWrite s n
-  unfolding Doomed
-  doomed-refused n e = rw e at told
+module _ (s path : List ℕ) (r : DeletePlan) (told : DeletePlanned s path r) where
+  pub planned-refused : (n : ℕ) → r ≡ Refused n → (z : ℤ) → deleteOf s path z ≡ refusedWrite s n
+  unfolding DeletePlanned
+  planned-refused n e = rw e at told
 
   module _ (at : Offset) (t : ℕ) (e : r ≡ At at t) where
-    pub doomed-within : at .0 + slotBytes ≤ length s
-    unfolding Doomed
-    doomed-within = (rw e at told) .0
+    pub planned-within : at .0 + slotBytes ≤ length s
+    unfolding DeletePlanned
+    planned-within = (rw e at told) .0
 
     -- as it is marked
-    pub doomed-put : (kind : ℕ) → kind ≡ deletedKind t → (z : ℤ) (u : List ℕ) → u ≡ retyped s (at .0) kind z → wrote u ≡ deleteOf s path z
-    unfolding Doomed
-    doomed-put kind k z u f = ap wrote (f ∙ ap (λ (x : ℕ). retyped s (at .0) x z) k) ∙ sym ((rw e at told) .1 z)
+    pub planned-put : (kind : ℕ) → kind ≡ deletedKind t → (z : ℤ) (u : List ℕ) → u ≡ retyped s (at .0) kind z → wrote u ≡ deleteOf s path z
+    unfolding DeletePlanned
+    planned-put kind k z u f = ap wrote (f ∙ ap (λ (x : ℕ). retyped s (at .0) x z) k) ∙ sym ((rw e at told) .1 z)
 
 -- ---- an entry that was found lies in the image
 slot-within : (s : List ℕ) (g : Geometry) → GoodGeometry (length s) g → (path : List ℕ) (e : Entry) → lookup path (entriesOf (itemsOf s g)) ≡ some e
@@ -77,10 +77,10 @@ module _ (s path : List ℕ) (g : Held) (opened : Opened s g) (h : Head) (found 
     entry-within =
         omega (arith, slot-at s (geometryView g) (h .slot .0), slot-within s (geometryView g) (opened-super s g opened .good) path (headView s h) found)
 
-    pub entry-doomed : writable (geometryView g) ≡ true → pathGood path ≡ true → anyBelow path (entries (volumeOf s (geometryView g))) ≡ false
-        → (at : Offset) → at .0 ≡ index + slotBytes * h .slot .0 → Doomed s path (At at (h .kind))
-    unfolding Doomed deleted headView
-    entry-doomed v p b at i =
+    pub entry-planned : writable (geometryView g) ≡ true → pathGood path ≡ true → anyBelow path (entries (volumeOf s (geometryView g))) ≡ false
+        → (at : Offset) → at .0 ≡ index + slotBytes * h .slot .0 → DeletePlanned s path (At at (h .kind))
+    unfolding DeletePlanned deleted headView
+    entry-planned v p b at i =
         let place : slotAt s (geometryView g) (h .slot .0) ≡ at .0 = omega (arith, slot-at s (geometryView g) (h .slot .0)) in (
           omega (arith, entry-within),
           λ z. delete-done s (volumeOf s (geometryView g)) opened v path z p (headView s h) found b

@@ -17,45 +17,45 @@ ghost use Rattle.geometry.specs.View.{geometryView};
 ghost use Rattle.index.specs.Steps.{Walks, entriesFrom};
 ghost use Rattle.slots.specs.View.{HeadIn};
 ghost use Rattle.judging.specs.View.{Opened};
-ghost use Rattle.erasing.specs.Delete.{Doomed};
+ghost use Rattle.erasing.specs.Delete.{DeletePlanned};
 ghost use Rattle.erasing.specs.Reclaim.{headCleared, reclaimed};
 
 // ---- delete
 
 // What a delete comes to: a refusal, or an entry's first slot and its type.
-enum Doom {
+enum DeletePlan {
     Refused(u8),
     At(Offset, u8),
 }
 
-fn plan_entry(img: &[u8], g: Geometry, path: &[u8]) -> Doom
+fn plan_entry(img: &[u8], g: Geometry, path: &[u8]) -> DeletePlan
     requires { ⌜ Opened (now img) g ⌝ }
-    ensures { λ r. ⌜ Doomed (now (img .entry)) (now (path .entry)) r ⌝ }
+    ensures { λ r. ⌜ DeletePlanned (now (img .entry)) (now (path .entry)) r ⌝ }
 {
     if !g.is_writable() {
-        return Doom::Refused(9);
+        return DeletePlan::Refused(9);
     }
     if !names::path_good(path) {
-        return Doom::Refused(10);
+        return DeletePlan::Refused(10);
     }
     let from = super_block::first_slot(img, g);
     match paths::lookup(img, from, path) {
-        Search::Nothing => Doom::Refused(11),
+        Search::Nothing => DeletePlan::Refused(11),
         Search::Entry(h) => {
             if paths::any_below(img, from, path) {
-                return Doom::Refused(14);
+                return DeletePlan::Refused(14);
             }
             let start = units::index_start(img.len() as u64, g.index);
-            Doom::At(h.slot.offset(start), h.kind)
+            DeletePlan::At(h.slot.offset(start), h.kind)
         }
     }
 }
 
-fn plan_delete(img: &[u8], path: &[u8]) -> Doom
-    ensures { λ r. ⌜ Doomed (now (img .entry)) (now (path .entry)) r ⌝ }
+fn plan_delete(img: &[u8], path: &[u8]) -> DeletePlan
+    ensures { λ r. ⌜ DeletePlanned (now (img .entry)) (now (path .entry)) r ⌝ }
 {
     match judging::judge(img) {
-        Judged::Refused(n) => Doom::Refused(n),
+        Judged::Refused(n) => DeletePlan::Refused(n),
         Judged::Good(g) => plan_entry(img, g, path),
     }
 }
@@ -65,8 +65,8 @@ pub fn delete(img: &mut [u8], path: &[u8], stamp: u64) -> u32
     ensures { λ r. ⌜ Deletes (now (img .entry)) (now (path .entry)) (signedOf stamp) r (now (img .exit)) ⌝ }
 {
     match plan_delete(img, path) {
-        Doom::Refused(n) => n as u32,
-        Doom::At(at, kind) => {
+        DeletePlan::Refused(n) => n as u32,
+        DeletePlan::At(at, kind) => {
             runs::retype(img, at, slots::deleted_kind(kind), stamp);
             0
         }

@@ -1,6 +1,6 @@
 use mathlib.Core.Path.{sym}
 use Rattle.rules.specs.Outcome.{done}
-use Rattle.erasing.specs.Delete.{doomed-refused, doomed-within, doomed-put}
+use Rattle.erasing.specs.Delete.{planned-refused, planned-within, planned-put}
 use borrow.Author.Needs.{needs}
 use Rattle.erasing.proofs.delete.Statement.{statement}
 use Rattle.erasing.proofs.delete.Tie as tie
@@ -22,13 +22,13 @@ deleted-kind-requires c κs = search needs
 
 retype-requires : tie.Need-retype-requires
 retype-requires c κs = let a = c .before .before .before in
-    doomed-within _ _ _ (a .before .before .plan-delete .ensures) _ _ (a .at .given .1)
+    planned-within _ _ _ (a .before .before .plan-delete .ensures) _ _ (a .at .given .1)
 
 same-length : tie.Need-same-length
 same-length c = search needs
 
 returns : tie.Need-returns
-returns c = sym (doomed-refused _ _ _ (c .before .before .before .plan-delete .ensures) _ (c .before .n .given .1) _)
+returns c = sym (planned-refused _ _ _ (c .before .before .before .plan-delete .ensures) _ (c .before .n .given .1) _)
 
 same-length-2 : tie.Need-same-length-2
 same-length-2 c = search needs
@@ -38,7 +38,7 @@ unfolding done
 returns-2 c = let r = c .before .before in
     let k = r .before in
     let at = k .before .before .before in
-    doomed-put _ _ _ (at .before .before .plan-delete .ensures) _ _ (at .at .given .1) _ (k .deleted-kind .ensures) _ _ (r .retype .ensures)
+    planned-put _ _ _ (at .before .before .plan-delete .ensures) _ _ (at .at .given .1) _ (k .deleted-kind .ensures) _ _ (r .retype .ensures)
 
 pub delete-spec : {M : Type 1} → statement M
 delete-spec =
