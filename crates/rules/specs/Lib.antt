@@ -3,6 +3,7 @@ pub mod Lists
 pub mod Text
 pub mod Fields
 pub mod SuperBlock
+pub mod Utf8
 pub mod Names
 pub mod Index
 pub mod Regions

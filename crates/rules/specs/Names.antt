@@ -1,10 +1,12 @@
--- 01, "Index area": which bytes, paths and volume names are allowed.
+-- 01, "Index area", as K1 amends it: which characters, paths and volume names are allowed.
 use Prim.Native.Nat.{ℕ}
 use mathlib.Core.Bool.{Bool, true, false, _&&_, not}
 use mathlib.Core.List.{List, [], _∷_, map}
+use mathlib.Core.Option.{Option, none, some}
 use lib.ListN.{length}
 use lib.Dec.{eqb, leb}
 use Rattle.rules.specs.Lists.{pick, all, any, eqList}
+use Rattle.rules.specs.Utf8.{within, decode}
 pub mod Laws
 
 abbrev pub slash : ℕ
@@ -15,17 +17,21 @@ dot = 0x2E
 
 -- " * : < > ? and the backslash
 unfoldable pub isMark : ℕ → Bool
-isMark b = any (eqb b) (0x22 ∷ 0x2A ∷ 0x3A ∷ 0x3C ∷ 0x3E ∷ 0x3F ∷ 0x5C ∷ [])
+isMark c = any (eqb c) (0x22 ∷ 0x2A ∷ 0x3A ∷ 0x3C ∷ 0x3E ∷ 0x3F ∷ 0x5C ∷ [])
 
--- not below 0x20, not from 0x7F to 0xA0, and no mark; what is above 0xFF is no byte
-unfoldable pub byteGood : ℕ → Bool
-byteGood b = leb 0x20 b && not (leb 0x7F b && leb b 0xA0) && leb b 0xFF && not (isMark b)
+-- a character that a name may have, by its code: not below 0x20, not from 0x7F to 0xA0, and no mark
+unfoldable pub codeGood : ℕ → Bool
+codeGood c = leb 0x20 c && not (within 0x7F 0xA0 c) && not (isMark c)
 
--- THE NAME RULE, for every kind of name
+unfoldable pub codesGood : Option (List ℕ) → Bool
+codesGood none = false
+codesGood (some cs) = all codeGood cs
+
+-- THE NAME RULE, for every kind of name: its bytes are well-formed UTF-8, and each code is one that a name may have
 unfoldable pub textGood : List ℕ → Bool
-textGood bs = all byteGood bs
+textGood bs = codesGood (decode bs)
 
--- ---- paths
+-- ---- paths, in bytes: slashes, dots and lengths
 -- one more byte in front of the first part
 unfoldable pub intoFirst : ℕ → List (List ℕ) → List (List ℕ)
 intoFirst b [] = (b ∷ []) ∷ []

@@ -1,9 +1,11 @@
 -- Laws of names and paths: by cases, joined by a slash, and what is sure of one that is good.
-use Prim.Native.Nat.{ℕ, suc, _-_, _≤_, _<_}
+use Prim.Native.Nat.{ℕ, suc, _+_, _-_, _/_, _%_, _≤_, _<_}
 use mathlib.Core.Path.{_≡_, refl, sym, ap, _∙_}
 use mathlib.Core.Bool.{Bool, true, false, _&&_, not}
-use mathlib.Core.List.{List, [], _∷_, _++_, map, map-append}
+use mathlib.Core.List.{List, [], _∷_, _++_, map, map-append, append-assoc}
+use mathlib.Core.Option.{Option, none, some}
 use native.Mathlib.Omega.{arith}
+use native.Mathlib.Decide.{decLt}
 use lib.ListN.{length, getD, take}
 use lib.Seq.{take-suc}
 use lib.Dec.{eqb, leb}
@@ -11,42 +13,100 @@ use borrow.Author.Tests.{eq-eqb, ne-eqb, le-leb, lt-leb, leb-true}
 use Rattle.rules.specs.Lists.{pick, all, any, eqList}
 use Rattle.rules.specs.Lists.Laws.{clash, and-true, and-right}
 use Rattle.rules.specs.Fields.{upToZero}
-use Rattle.rules.specs.Names.{slash, isMark, byteGood, textGood, intoFirst, parts, partGood, pathGood, newPathGood, volumeTextGood, volumeNameGood, leadIf, leading, isBelow}
+use Rattle.rules.specs.Utf8.{within, encode, encodeAll, First, ill, char, firstChar, also, onward, decode}
+use Rattle.rules.specs.Utf8.Laws.{within-in, within-above, first-one, decode-equation, encode-one, encode-two, encode-three, encode-four, encode-decode}
+use Rattle.rules.specs.Names.{slash, isMark, codeGood, codesGood, textGood, intoFirst, parts, partGood, pathGood, newPathGood, volumeTextGood, volumeNameGood, leadIf, leading, isBelow}
 
--- ---- bytes
-module _ (b : ℕ) where
-  pub byte-low : b < 0x20 → byteGood b ≡ false
-  unfolding byteGood
-  byte-low h = rw (lt-leb 0x20 b h)
+-- ---- codes
+mark-high : (c : ℕ) → 0x7F ≤ c → isMark c ≡ false
+unfolding isMark any
+mark-high c h = rw (ne-eqb c 0x22 (omega arith), ne-eqb c 0x2A (omega arith), ne-eqb c 0x3A (omega arith), ne-eqb c 0x3C (omega arith), ne-eqb c 0x3E (omega arith), ne-eqb c 0x3F (omega arith), ne-eqb c 0x5C (omega arith))
 
-  pub byte-control : 0x20 ≤ b → leb 0x7F b ≡ true → leb b 0xA0 ≡ true → byteGood b ≡ false
-  unfolding byteGood
-  byte-control h e f = rw (le-leb 0x20 b h, e, f)
+module _ (c : ℕ) where
+  pub good-low : c < 0x20 → codeGood c ≡ false
+  unfolding codeGood
+  good-low h = rw (lt-leb 0x20 c h)
 
-  pub byte-rest : 0x20 ≤ b → (leb 0x7F b && leb b 0xA0) ≡ false → b ≤ 0xFF → byteGood b ≡ not (isMark b)
-  unfolding byteGood
-  byte-rest h e k = rw (le-leb 0x20 b h, e, le-leb b 0xFF k)
+  pub good-control : 0x7F ≤ c → c ≤ 0xA0 → codeGood c ≡ false
+  unfolding codeGood
+  good-control h k = rw (within-in 0x7F 0xA0 c h k, le-leb 0x20 c (omega arith))
 
-pub byte-zero : byteGood 0 ≡ false
-byte-zero = byte-low 0 (omega arith)
+  pub good-high : 0xA0 < c → codeGood c ≡ true
+  unfolding codeGood
+  good-high h = rw (within-above 0x7F 0xA0 c h, le-leb 0x20 c (omega arith), mark-high c (omega arith))
 
--- ---- texts, byte by byte
-pub text-cons : (b : ℕ) (bs : List ℕ) → textGood (b ∷ bs) ≡ (byteGood b && textGood bs)
-unfolding textGood all
-text-cons b bs = refl
+  good-least : codeGood c ≡ true → 0x20 ≤ c
+  unfolding codeGood
+  good-least e = let p = and-true (leb 0x20 c && not (within 0x7F 0xA0 c)) (not (isMark c)) e in leb-true _ _ (and-true (leb 0x20 c) (not (within 0x7F 0xA0 c)) (p .0) .0)
 
--- a good text has no zero byte, so that the first zero behind it ends the name
-module _ (b : ℕ) (bs : List ℕ) (e : textGood (b ∷ bs) ≡ true) where
-  first-good : (byteGood b ≡ true) × (textGood bs ≡ true)
-  first-good = and-true (byteGood b) (textGood bs) (sym (text-cons b bs) ∙ e)
+-- ---- texts, character by character
+pub text-nil : textGood [] ≡ true
+unfolding textGood codesGood all
+text-nil = rw (decode-equation .0)
 
-  first-not-zero : eqb b 0 ≡ false
-  first-not-zero = ne-eqb b 0 (λ z. clash (sym (first-good .0) ∙ ap byteGood z ∙ byte-zero))
+-- the first character is allowed, and what stands behind it is good
+unfoldable pub goodFirst : First → Bool
+goodFirst ill = false
+goodFirst (char c bs) = codeGood c && textGood bs
+
+onward-good : (f : First) → codesGood (onward f decode) ≡ goodFirst f
+unfolding onward also codesGood goodFirst textGood all
+onward-good ill = refl
+onward-good (char c bs) = by (decode bs)
+  where
+    by : (r : Option (List ℕ)) → codesGood (also c r) ≡ (codeGood c && codesGood r)
+    by none = sym (and-right (codeGood c) false refl)
+    by (some cs) = refl
+
+pub text-first : (b : ℕ) (bs : List ℕ) → textGood (b ∷ bs) ≡ goodFirst (firstChar (b ∷ bs))
+unfolding textGood
+text-first b bs = ap codesGood (decode-equation .1 b bs) ∙ onward-good (firstChar (b ∷ bs))
+
+pub text-ascii : (b : ℕ) (bs : List ℕ) → b ≤ 0x7F → textGood (b ∷ bs) ≡ (codeGood b && textGood bs)
+unfolding goodFirst
+text-ascii b bs h = text-first b bs ∙ rw (first-one b bs h)
+
+-- IN PLAIN ASCII THE RULE IS THAT OF EACH BYTE, as it was before K1
+pub ascii-text : (bs : List ℕ) → all (λ b. leb b 0x7F) bs ≡ true → textGood bs ≡ all codeGood bs
+unfolding all
+ascii-text [] e = text-nil
+ascii-text (b ∷ bs) e =
+    let (p, q) = and-true (leb b 0x7F) (all (λ b. leb b 0x7F) bs) e in
+    text-ascii b bs (leb-true _ _ p) ∙ ap (λ t. codeGood b && t) (ascii-text bs q)
+
+-- a good text is the bytes of its codes, none of which has a zero byte, so that the first zero behind it ends the name
+kept : (b : ℕ) (bs : List ℕ) → 0 < b → upToZero (b ∷ bs) ≡ b ∷ upToZero bs
+unfolding upToZero pick
+kept b bs h = rw (ne-eqb b 0 (omega arith))
+
+module _ (c : ℕ) (bs : List ℕ) (e : codeGood c ≡ true) where
+  encode-kept : upToZero (encode c ++ bs) ≡ encode c ++ upToZero bs
+  encode-kept = go (decLt 0x7F c) (decLt 0x7FF c) (decLt 0xFFFF c)
+    where
+      go : Dec (0x7F < c) → Dec (0x7FF < c) → Dec (0xFFFF < c) → upToZero (encode c ++ bs) ≡ encode c ++ upToZero bs
+      go (no h) i j = rw (encode-one c (omega arith)) (kept _ _ (omega (arith, good-least c e)))
+      go (yes h) (no i) j = rw (encode-two c h (omega arith)) (kept _ _ (omega arith) ∙ rw (kept (0x80 + c % 64) bs (omega arith)))
+      go (yes h) (yes i) (no j) =
+          rw (encode-three c i (omega arith))
+          (kept _ _ (omega arith) ∙ rw (kept (0x80 + c / 64 % 64) ((0x80 + c % 64) ∷ bs) (omega arith), kept (0x80 + c % 64) bs (omega arith)))
+      go (yes h) (yes i) (yes j) =
+          rw (encode-four c j)
+          (kept _ _ (omega arith) ∙ rw (kept (0x80 + c / 4096 % 64) ((0x80 + c / 64 % 64) ∷ (0x80 + c % 64) ∷ bs) (omega arith), kept (0x80 + c / 64 % 64) ((0x80 + c % 64) ∷ bs) (omega arith), kept (0x80 + c % 64) bs (omega arith)))
+
+codes-up-to-zero : (cs rest : List ℕ) → all codeGood cs ≡ true → upToZero (encodeAll cs ++ 0 ∷ rest) ≡ encodeAll cs
+unfolding encodeAll all upToZero pick
+codes-up-to-zero [] rest e = refl
+codes-up-to-zero (c ∷ cs) rest e =
+    let (p, q) = and-true (codeGood c) (all codeGood cs) e in
+    ap upToZero (append-assoc (encode c) (encodeAll cs) (0 ∷ rest)) ∙ encode-kept c _ p ∙ ap (λ l. encode c ++ l) (codes-up-to-zero cs rest q)
 
 pub text-up-to-zero : (s rest : List ℕ) → textGood s ≡ true → upToZero (s ++ 0 ∷ rest) ≡ s
-unfolding upToZero pick
-text-up-to-zero [] rest e = refl
-text-up-to-zero (b ∷ bs) rest e = rw (first-not-zero b bs e) (ap (λ l. b ∷ l) (text-up-to-zero bs rest (first-good b bs e .1)))
+unfolding textGood codesGood
+text-up-to-zero s rest e = by (decode s) refl e
+  where
+    by : (r : Option (List ℕ)) → decode s ≡ r → codesGood r ≡ true → upToZero (s ++ 0 ∷ rest) ≡ s
+    by none d g = clash (sym g)
+    by (some cs) d g = rw (← encode-decode s cs d .0) (codes-up-to-zero cs rest g)
 
 -- ---- parts
 -- there is always a first part
