@@ -1,56 +1,161 @@
 // The name rule and the path rules, over the bytes of a name.
 
 ghost use mathlib.Core.Path.{_≡_};
-ghost use lib.Dec.{eqb};
-ghost use Rattle.rules.specs.Lists.{all, any};
-ghost use Rattle.rules.specs.Names.{isMark, byteGood, textGood, parts, partGood, pathGood, newPathGood, volumeTextGood, volumeNameGood};
+ghost use mathlib.Core.Bool.{_&&_, not};
+ghost use mathlib.Core.List.{List, [], _∷_};
+ghost use Prim.Native.Nat.{ℕ, _≤_};
+ghost use lib.Dec.{eqb, ltb};
+ghost use Rattle.rules.specs.Lists.{pick};
+ghost use Rattle.rules.specs.Names.{slash, dot, textGood, pathGood, newPathGood, volumeTextGood, volumeNameGood};
 ghost use Rattle.names.specs.Automaton.{partStep};
+ghost use Rattle.names.specs.Masks.{bitOf};
+ghost use Rattle.names.specs.Places.{asciiGood, goodFrom};
+ghost use Rattle.names.specs.Reader.{goodAt};
 
-// Whether b is among the bytes of s.
-fn has(s: &[u8], b: u8) -> bool
-    ensures { λ r. ⌜ r ≡ any (eqb b) (now (s .entry)) ⌝ }
+// ---- characters of one byte
+
+// One bit for each character of ASCII from 0x00 and from 0x40 on: those that a name may have.
+const NAME: u64 = 0x2BFF_FBFB_0000_0000;
+
+const NAME_HIGH: u64 = 0x7FFF_FFFF_EFFF_FFFF;
+
+// The same without the slash and the dot, on which the parts of a path turn.
+const PART: u64 = 0x2BFF_3BFB_0000_0000;
+
+fn half(low: u64, high: u64, b: u8) -> u64
+    ensures { λ r. ⌜ r ≡ pick (ltb b 64) low high ⌝ }
 {
-    let mut i: usize = 0;
-    while i < s.len() {
-        if s[i] == b {
-            return true;
-        }
-        i += 1;
+    if b < 64 {
+        return low;
     }
-    false
+    high
 }
 
-// ---- the name rule
-
-fn is_mark(b: u8) -> bool
-    ensures { λ r. ⌜ r ≡ isMark b ⌝ }
+// The bit of b.
+fn bit(low: u64, high: u64, b: u8) -> bool
+    ensures { λ r. ⌜ r ≡ bitOf low high b ⌝ }
 {
-    has(b"\"*:<>?\\", b)
+    (half(low, high, b) >> (b % 64)) % 2 == 1
 }
 
-fn byte_good(b: u8) -> bool
-    ensures { λ r. ⌜ r ≡ byteGood b ⌝ }
+// Whether b is a character of ASCII that a name may have.
+fn is_ascii(b: u8) -> bool
+    ensures { λ r. ⌜ r ≡ asciiGood b ⌝ }
 {
-    if b < 0x20 {
-        return false;
-    }
-    if 0x7F <= b && b <= 0xA0 {
-        return false;
-    }
-    !is_mark(b)
+    b < 128 && bit(NAME, NAME_HIGH, b)
 }
 
-pub fn text_good(s: &[u8]) -> bool
-    ensures { λ r. ⌜ r ≡ textGood (now (s .entry)) ⌝ }
+// The same, but neither slash nor dot.
+fn is_plain(b: u8) -> bool
+    ensures { λ r. ⌜ r ≡ (asciiGood b && not (eqb b slash) && not (eqb b dot)) ⌝ }
 {
-    let mut i: usize = 0;
-    while i < s.len() {
-        if !byte_good(s[i]) {
-            return false;
-        }
-        i += 1;
+    b < 128 && bit(PART, NAME_HIGH, b)
+}
+
+// ---- the name rule: an automaton, stepped byte by byte
+
+// Where a reader of a name stands: so many bytes are due to end the character that was begun, the next of them from low to high.
+struct Place {
+    due: u8,
+    low: u8,
+    high: u8,
+}
+
+// Between two characters, where a name begins and may end.
+const BETWEEN: Place = Place {
+    due: 0,
+    low: 0x80,
+    high: 0xBF,
+};
+
+// Nothing goes on from here: there is no byte from 1 to 0.
+const NOWHERE: Place = Place {
+    due: 1,
+    low: 1,
+    high: 0,
+};
+
+fn due(n: u8, low: u8, high: u8) -> Place
+    ensures { λ r. ⌜ ((bs : List ℕ) → goodAt r bs ≡ goodFrom n low high bs) ⌝ }
+{
+    Place { due: n, low, high }
+}
+
+// After the first of two bytes. U+0080 to U+00A0 are in no name.
+fn first_of_two(b: u8) -> Place
+    requires { ⌜ (0xC2 ≤ b) × (b ≤ 0xDF) ⌝ }
+    ensures { λ r. ⌜ ((bs : List ℕ) → goodAt r bs ≡ textGood (b ∷ bs)) ⌝ }
+{
+    if b == 0xC2 {
+        return due(1, 0xA1, 0xBF);
     }
-    true
+    due(1, 0x80, 0xBF)
+}
+
+// After the first of three bytes. What two bytes can say is not said in three, and U+D800 to U+DFFF are no characters.
+fn first_of_three(b: u8) -> Place
+    requires { ⌜ (0xE0 ≤ b) × (b ≤ 0xEF) ⌝ }
+    ensures { λ r. ⌜ ((bs : List ℕ) → goodAt r bs ≡ textGood (b ∷ bs)) ⌝ }
+{
+    if b == 0xE0 {
+        return due(2, 0xA0, 0xBF);
+    }
+    if b == 0xED {
+        return due(2, 0x80, 0x9F);
+    }
+    due(2, 0x80, 0xBF)
+}
+
+// After the first of four bytes. What three bytes can say is not said in four, and the last code is U+10FFFF.
+fn first_of_four(b: u8) -> Place
+    requires { ⌜ (0xF0 ≤ b) × (b ≤ 0xF4) ⌝ }
+    ensures { λ r. ⌜ ((bs : List ℕ) → goodAt r bs ≡ textGood (b ∷ bs)) ⌝ }
+{
+    if b == 0xF0 {
+        return due(3, 0x90, 0xBF);
+    }
+    if b == 0xF4 {
+        return due(3, 0x80, 0x8F);
+    }
+    due(3, 0x80, 0xBF)
+}
+
+// After the first byte of a character. 0x80 to 0xBF are first bytes of none, 0xC0 and 0xC1 of none that needs two.
+fn begun(b: u8) -> Place
+    ensures { λ r. ⌜ ((bs : List ℕ) → goodAt r bs ≡ textGood (b ∷ bs)) ⌝ }
+{
+    if is_ascii(b) {
+        return BETWEEN;
+    }
+    if b < 0xC2 {
+        return NOWHERE;
+    }
+    if b < 0xE0 {
+        return first_of_two(b);
+    }
+    if b < 0xF0 {
+        return first_of_three(b);
+    }
+    if b < 0xF5 {
+        return first_of_four(b);
+    }
+    NOWHERE
+}
+
+// After one byte more.
+fn step(p: Place, b: u8) -> Place
+    ensures { λ r. ⌜ ((bs : List ℕ) → goodAt r bs ≡ goodAt p (b ∷ bs)) ⌝ }
+{
+    if p.due == 0 {
+        return begun(b);
+    }
+    if b < p.low {
+        return NOWHERE;
+    }
+    if p.high < b {
+        return NOWHERE;
+    }
+    due(p.due - 1, 0x80, 0xBF)
 }
 
 // ---- paths
@@ -71,22 +176,29 @@ fn part_step(state: u8, b: u8) -> u8
     if state < 2 { state + 1 } else { 3 }
 }
 
-pub fn parts_good(s: &[u8]) -> bool
-    ensures { λ r. ⌜ r ≡ all partGood (parts (now (s .entry))) ⌝ }
-{
-    let mut state: u8 = 0;
-    let mut i: usize = 0;
-    while i < s.len() {
-        state = part_step(state, s[i]);
-        i += 1;
-    }
-    state == 3
-}
-
+// The name rule and the rule on parts in one pass. Most bytes are plain characters, which begin nothing and end nothing.
 pub fn path_good(s: &[u8]) -> bool
     ensures { λ r. ⌜ r ≡ pathGood (now (s .entry)) ⌝ }
 {
-    text_good(s) && parts_good(s)
+    let mut place = BETWEEN;
+    let mut part: u8 = 0;
+    let mut i: usize = 0;
+    while i < s.len() {
+        let b = s[i];
+        i += 1;
+        if place.due == 0 {
+            if is_plain(b) {
+                part = 3;
+                continue;
+            }
+        }
+        part = part_step(part, b);
+        if part == 4 {
+            return false;
+        }
+        place = step(place, b);
+    }
+    place.due == 0 && part == 3
 }
 
 // A path to create.
@@ -101,7 +213,17 @@ pub fn new_path_good(s: &[u8]) -> bool
 pub fn volume_text_good(s: &[u8]) -> bool
     ensures { λ r. ⌜ r ≡ volumeTextGood (now (s .entry)) ⌝ }
 {
-    text_good(s) && !has(s, b'/')
+    let mut place = BETWEEN;
+    let mut i: usize = 0;
+    while i < s.len() {
+        let b = s[i];
+        if b == b'/' {
+            return false;
+        }
+        place = step(place, b);
+        i += 1;
+    }
+    place.due == 0
 }
 
 pub fn volume_name_good(s: &[u8]) -> bool

@@ -7,9 +7,10 @@ use lib.Dec.{leb}
 use lib.IntN.{ℤ, pos, _+ℤ_, _-ℤ_, _*ℤ_, +ℤ-assoc, +ℤ-negℤ-cancel, -ℤ-+ℤ-cancel}
 use borrow.Author.Tests.{leb-true}
 use Rattle.rules.specs.Lists.{pick}
+use Rattle.rules.specs.Lists.Laws.{checked, check-at}
 use Rattle.rules.specs.Dates.{floorDiv, floorMod, leapYear, yearLength, monthLength, Date, Valid, total, epoch, dayNumber, Counted, cycle, yearOff, monthOff, dateIn, dateOf}
 use Rattle.rules.specs.Dates.Laws.{floor-law, mod-below, floor-of}
-use Rattle.rules.specs.Dates.Counting.{total-none, total-next, total-le, Placed, counted, counted-only, checked, check-at}
+use Rattle.rules.specs.Dates.Counting.{total-none, total-next, total-le, Placed, counted, counted-only}
 use Rattle.rules.specs.Dates.Years.{yearsUp, daysUp, days-up, inCycle, leap-repeats, start-repeats}
 
 -- ---- the day number of a date in a cycle

@@ -1,11 +1,10 @@
 -- Laws of counting off: it comes to the one place that n days come to.
 use Prim.Native.Nat.{ℕ, zero, suc, _+_, _-_, _≤_, _<_}
 use mathlib.Core.Path.{_≡_, refl, ap, _∙_}
-use mathlib.Core.Bool.{Bool, true, _&&_}
 use native.Mathlib.Decide.{decLt}
 use native.Mathlib.Omega.{arith}
 use borrow.Author.Tests.{lt-ltb, le-ltb}
-use Rattle.rules.specs.Lists.Laws.{pick-true, pick-false, and-true}
+use Rattle.rules.specs.Lists.Laws.{pick-true, pick-false}
 use Rattle.rules.specs.Dates.{total, Counted, countOff}
 
 -- ---- sums, and the place that n days come to
@@ -82,17 +81,3 @@ module _ (f : ℕ → ℕ) where
   counted-only steps k n c z p =
       let e : total f k + n ≡ n = omega arith in
       count-only steps k n c (rw e p)
-
--- ---- what holds of each of the first n numbers can be computed
-unfoldable pub checked : (ℕ → Bool) → ℕ → Bool
-checked p zero = true
-checked p (suc n) = checked p n && p n
-
-pub check-at : (p : ℕ → Bool) (n m : ℕ) → checked p n ≡ true → m < n → p m ≡ true
-unfolding checked
-check-at p zero m e h = absurd (omega arith)
-check-at p (suc n) m e h = go (λ l. check-at p n m (and-true (checked p n) (p n) e .0) l) (decLt m n)
-  where
-    go : (m < n → p m ≡ true) → Dec (m < n) → p m ≡ true
-    go r (yes l) = r l
-    go r (no l) = let k : m ≡ n = omega arith in rw k (and-true (checked p n) (p n) e .1)

@@ -9,10 +9,10 @@ use lib.Dec.{ltb, eqb}
 use lib.IntN.{ℤ, pos, _+ℤ_, _-ℤ_, _*ℤ_, +ℤ-assoc, +ℤ-negℤ-cancel}
 use borrow.Author.Tests.{lt-ltb, le-ltb, eq-eqb, ne-eqb, eqb-true}
 use Rattle.rules.specs.Lists.{pick}
-use Rattle.rules.specs.Lists.Laws.{pick-true, pick-false, and-true, clash}
+use Rattle.rules.specs.Lists.Laws.{pick-true, pick-false, and-true, clash, checked, check-at}
 use Rattle.rules.specs.Dates.{floorDiv, floorMod, divides, leapYear, yearLength, monthLength, Date, Valid, total, epoch, cycle, dayNumber, dateOf}
 use Rattle.rules.specs.Dates.Laws.{floor-law, mod-below}
-use Rattle.rules.specs.Dates.Counting.{total-next, checked, check-at}
+use Rattle.rules.specs.Dates.Counting.{total-next}
 use Rattle.rules.specs.Dates.Years.{yearsUp, daysUp, days-up}
 use Rattle.rules.specs.Dates.Calendar.{dayIn, number-in, valid-in, date-only}
 

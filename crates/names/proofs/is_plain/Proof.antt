@@ -1,0 +1,22 @@
+use mathlib.Core.Path.{sym, _∙_}
+use mathlib.Core.Bool.{_&&_, not}
+use lib.Dec.{eqb}
+use borrow.Author.Needs.{needs}
+use borrow.Author.Tests.{le-ltb}
+use Rattle.rules.specs.Names.{slash, dot}
+use Rattle.names.specs.Masks.{part-bits}
+use Rattle.names.specs.Places.{ascii-low, ascii-high}
+use Rattle.names.proofs.is_plain.Statement.{statement}
+use Rattle.names.proofs.is_plain.Tie as tie
+
+bit-requires : tie.Need-bit-requires
+bit-requires c κs = search needs
+
+returns : tie.Need-returns
+returns c = c .bit .ensures ∙ part-bits _ (c .before .if1 .taken) ∙ rw (ascii-low _ (c .before .if1 .taken))
+
+returns-2 : tie.Need-returns-2
+returns-2 c = rw (ascii-high _ (c .if1 .left)) (le-ltb _ _ (c .if1 .left))
+
+pub is-plain-spec : {M : Type 1} → statement M
+is-plain-spec = tie.close (tie.spec bit-requires returns returns-2)

@@ -1,0 +1,35 @@
+-- Sets of ASCII characters as bits, one for each: which bits stand for the characters of a name.
+use Prim.Native.Nat.{ℕ, _/_, _%_, _^_, _<_}
+use mathlib.Core.Path.{_≡_, refl, sym}
+use mathlib.Core.Bool.{Bool, true, false, _&&_, not}
+use native.Mathlib.Omega.{arith}
+use lib.Dec.{eqb, ltb, leb}
+use Rattle.rules.specs.Lists.{pick, any}
+use Rattle.rules.specs.Lists.Laws.{checked, check-at}
+use Rattle.rules.specs.Utf8.{within}
+use Rattle.rules.specs.Names.{slash, dot, isMark, codeGood}
+
+-- the bit of b, in the low word for those below 0x40, else in the high one
+unfoldable pub bitOf : ℕ → ℕ → ℕ → Bool
+bitOf low high b = eqb (pick (ltb b 64) low high / 2 ^ (b % 64) % 2) 1
+
+-- the same answer, as an answer
+unfoldable agree : Bool → Bool → Bool
+agree true b = b
+agree false b = not b
+
+agreed : (a b : Bool) → agree a b ≡ true → a ≡ b
+unfolding agree
+agreed true true e = refl
+agreed true false e = sym e
+agreed false true e = e
+agreed false false e = refl
+
+module _ (b : ℕ) (h : b < 128) where
+  pub name-bits : bitOf 0x2BFFFBFB00000000 0x7FFFFFFFEFFFFFFF b ≡ codeGood b
+  unfolding checked bitOf pick agree codeGood within isMark any
+  name-bits = agreed _ _ (check-at (λ k. agree (bitOf 0x2BFFFBFB00000000 0x7FFFFFFFEFFFFFFF k) (codeGood k)) 128 b refl h)
+
+  pub part-bits : bitOf 0x2BFF3BFB00000000 0x7FFFFFFFEFFFFFFF b ≡ (codeGood b && not (eqb b slash) && not (eqb b dot))
+  unfolding checked bitOf pick agree codeGood within isMark any
+  part-bits = agreed _ _ (check-at (λ k. agree (bitOf 0x2BFF3BFB00000000 0x7FFFFFFFEFFFFFFF k) (codeGood k && not (eqb k slash) && not (eqb k dot))) 128 b refl h)
