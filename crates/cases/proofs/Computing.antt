@@ -2,7 +2,8 @@
 use Rattle.rules.specs.Lists.{pick, all, any, everyTwo, keepIf, only, firstIf, first, isSome, sum, largest, eqList, part, padded}
 use Rattle.rules.specs.Fields.{byteAt, le, leBytes, splice, signedOf, bitsOf, stampIn, stampBytes, byteSum, checks, checksumOf, upToZero, hasZero}
 use Rattle.rules.specs.SuperBlock.{lengthGood, writable, geometryOf, blockBytes, blockLength, ceilingBlock, dataEnd, indexGood, geometryGood, fieldOf, withIndex, withData, withStamp, growIndex, extendData, trimData, restamp, sizesBytes, summedBytes, superBlockBytes, putSizes}
-use Rattle.rules.specs.Names.{isMark, byteGood, textGood, intoFirst, parts, partGood, pathGood, newPathGood, volumeTextGood, volumeNameGood, leadIf, leading, isBelow}
+use Rattle.rules.specs.Utf8.{within, isCode, encode, encodeAll, tails, row, firstChar, also, onward, decodeTo, decode}
+use Rattle.rules.specs.Names.{isMark, codeGood, codesGood, textGood, intoFirst, parts, partGood, pathGood, newPathGood, volumeTextGood, volumeNameGood, leadIf, leading, isBelow}
 use Rattle.rules.specs.Index.{fileType, directoryType, runType, liveType, deletedType, strayType, nameAt, runSlots, nameField, fileField, entryAt, unusableAt, nameGood, runAt, itemAt, followed, walk, walkAll, slotAt, innerSlots, itemsOf, entriesOf, isFault, identifierAt, volumeField, volumeName, volumeStamp, identifierGood, markerGood, indexSound, markerBytes, identifierBytes, unusedBytes, continuing, runBytes, retyped}
 use Rattle.rules.specs.Regions.{holds, blocksOf, withinData, fileRegionGood, regionGood, apart, regionsSound, heldBlocks, busy, runFree, lowestFrom, lowestFree, blocksNeeded}
 use Rattle.rules.specs.Paths.{isLive, liveAt, lookup, isDirectoryAt, directoryLive, directoriesLive, pathsDiffer, pathsSound, anyBelow, nextLive}
@@ -22,7 +23,8 @@ unfolding
     byteAt le leBytes splice signedOf bitsOf stampIn stampBytes byteSum checks checksumOf upToZero hasZero
     lengthGood writable geometryOf blockBytes blockLength ceilingBlock dataEnd indexGood geometryGood fieldOf withIndex withData
     withStamp growIndex extendData trimData restamp sizesBytes summedBytes superBlockBytes putSizes
-    isMark byteGood textGood intoFirst parts partGood pathGood newPathGood volumeTextGood volumeNameGood leadIf leading
+    within isCode encode encodeAll tails row firstChar also onward decodeTo decode
+    isMark codeGood codesGood textGood intoFirst parts partGood pathGood newPathGood volumeTextGood volumeNameGood leadIf leading
     isBelow
     fileType directoryType runType liveType deletedType strayType nameAt runSlots nameField fileField entryAt unusableAt
     nameGood runAt itemAt followed walk walkAll slotAt innerSlots itemsOf entriesOf isFault identifierAt volumeField volumeName

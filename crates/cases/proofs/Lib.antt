@@ -1,3 +1,4 @@
 pub mod Computing
 pub mod Table
 pub mod Runs
+pub mod Names

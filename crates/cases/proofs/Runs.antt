@@ -18,7 +18,7 @@ use Rattle.cases.proofs.Computing.{everything}
 use Rattle.cases.proofs.Table.{date}
 
 -- ---- the refusals of a list of calls
-pub refusalOf : List ℕ → Call → ℕ
+unfoldable pub refusalOf : List ℕ → Call → ℕ
 refusalOf s (format bytesPerBlock reserved name stamp) = formatOf s bytesPerBlock reserved name stamp .refusal
 refusalOf s (openVolume out) = openOf s out .refusal
 refusalOf s (find path) = findOf s path .refusal
@@ -28,7 +28,7 @@ refusalOf s (create new path stamp) = createOf s new path stamp .refusal
 refusalOf s (delete path stamp) = deleteOf s path stamp .refusal
 refusalOf s (reclaim stamp) = reclaimOf s stamp .refusal
 
-pub refusals : List ℕ → List Call → List ℕ
+unfoldable pub refusals : List ℕ → List Call → List ℕ
 refusals s [] = []
 refusals s (c ∷ cs) = refusalOf s c ∷ refusals (step s c .image) cs
 
