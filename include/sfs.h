@@ -10,7 +10,11 @@
  * Slices: a pointer and a length. The pointer of an empty slice may be NULL, any other may not. The slices of one call
  * lie apart in memory; no call can check that.
  *
- * Names and paths are bytes, without a terminating zero. Stamps count 1/65536 seconds from 1970-01-01 UTC.
+ * Names and paths are UTF-8 without a terminating zero; their lengths are bytes, and they are compared byte for byte. Not
+ * allowed in any name: ill-formed UTF-8 (RFC 3629), codes below U+0020 or from U+007F to U+00A0, and " * : < > ? and the
+ * backslash. A path has parts joined by single slashes, none of them empty, "." or ".."; a volume name has no slash.
+ *
+ * Stamps count 1/65536 seconds from 1970-01-01 UTC.
  */
 #ifndef SFS_H
 #define SFS_H
@@ -26,8 +30,8 @@ extern "C" {
 #define SFS_IMAGE_MIN 512u
 #define SFS_IMAGE_MAX 16777216u
 #define SFS_FORMAT_MIN 1024u      /* the shortest image that can be formatted */
-#define SFS_PATH_MAX 285u         /* of a path to create */
-#define SFS_VOLUME_NAME_MAX 51u
+#define SFS_PATH_MAX 285u         /* bytes of a path to create */
+#define SFS_VOLUME_NAME_MAX 51u   /* bytes */
 #define SFS_SLOT_BYTES 64u
 #define SFS_INDEX_MAX 262144u
 #define SFS_LISTING_IMAGE_MAX 65536u

@@ -360,6 +360,80 @@ static void listing(void) {
     free(image);
 }
 
+/* ---- names in UTF-8 */
+
+/* One kind of ill-formed or refused name each. */
+static const struct { const char *name; size_t length; } no_names[] = {
+#define NO(text) {text, sizeof(text) - 1}
+    NO("\x80"),             /* a byte that only goes on */
+    NO("\xC3"),             /* cut off, of two bytes, of three and of four */
+    NO("a\xE2\x89"),
+    NO("\xF0\xA3\x8E"),
+    NO("\xC3/a"),           /* another character inside one */
+    NO("\xC0\xAF"),         /* a slash in two bytes, in three and in four */
+    NO("\xE0\x80\xAF"),
+    NO("\xF0\x80\x80\xAF"),
+    NO("\xED\xA0\x80"),     /* U+D800 */
+    NO("\xF4\x90\x80\x80"), /* U+110000 */
+    NO("\xFF"),
+    NO("a\xC2\x80"),        /* U+0080 */
+    NO("\xC2\xA0" "b"),     /* U+00A0 */
+    NO("\x7F"),
+    NO("what?"),
+#undef NO
+};
+
+static void names_refused(void) {
+    uint8_t *image = new_image(65536);
+    CHECK(sfs_format(image, 65536, 512, 2, NULL, 0, 0) == SFS_OK);
+    for (size_t i = 0; i < sizeof no_names / sizeof no_names[0]; i++) {
+        const uint8_t *name = (const uint8_t *)no_names[i].name;
+        size_t n = no_names[i].length;
+        CHECK(zero_entry(sfs_find(image, 65536, name, n), SFS_NAME));
+        CHECK(sfs_create_file(image, 65536, name, n, NULL, 0, 0) == SFS_NAME);
+        CHECK(sfs_format(image, 65536, 512, 2, name, n, 0) == SFS_NAME);
+        memcpy(image + 65536 - 64 + 12, name, n); /* as the volume's stored name */
+        CHECK(zero_volume(sfs_open(image, 65536, NULL, 0), SFS_INDEX));
+        memset(image + 65536 - 64 + 12, 0, n);
+    }
+    free(image);
+}
+
+static void names_in_utf8(void) {
+    uint8_t *image = new_image(65536), out[64] = {0};
+    CHECK(sfs_format(image, 65536, 512, 2, B("À la page"), 0) == SFS_OK);
+    CHECK(sfs_open(image, 65536, out, 10).name_length == 10 && memcmp(out, "\xC3\x80 la page", 10) == 0);
+    CHECK(sfs_create_directory(image, 65536, B("prêts"), 0) == SFS_OK);
+    CHECK(sfs_create_file(image, 65536, B("prêts/¡日本語 𣎴"), B("yes"), 0) == SFS_OK);
+    CHECK(sfs_find(image, 65536, B("prêts/¡日本語 𣎴")).length == 3);
+    CHECK(zero_entry(sfs_find(image, 65536, B("PRÊTS")), SFS_NOT_FOUND));
+    CHECK(zero_entry(sfs_find(image, 65536, B("pre\xCC\x82ts")), SFS_NOT_FOUND)); /* e and its accent apart: other bytes */
+    CHECK(text_is(image, 65536,
+                  "À la page\n"
+                  "F 3 1970-01-01T00:00:00Z prêts/¡日本語 𣎴\n"
+                  "D 0 1970-01-01T00:00:00Z prêts\n"
+                  "live 2 held 1\n"));
+    free(image);
+}
+
+/* The last character of 31 bytes of name has a byte in each slot; the zero behind the first of them cuts it off. */
+static void names_over_slots(void) {
+    uint8_t *image = new_image(65536);
+    size_t second = 65536 - 128;
+    CHECK(sfs_format(image, 65536, 512, 2, NULL, 0, 0) == SFS_OK);
+    CHECK(sfs_create_file(image, 65536, B("prêts de la branche au marché"), NULL, 0, 0) == SFS_OK);
+    CHECK(image[second - 1] == 0xC3 && image[second] == 0xA9);
+    CHECK(sfs_find(image, 65536, B("prêts de la branche au marché")).refusal == SFS_OK);
+    image[second] = 0;
+    CHECK(zero_volume(sfs_open(image, 65536, NULL, 0), SFS_INDEX));
+    image[second] = 0xA9;
+    CHECK(sfs_delete(image, 65536, B("prêts de la branche au marché"), 0) == SFS_OK);
+    CHECK(sfs_open(image, 65536, NULL, 0).refusal == SFS_OK);
+    image[second] = 0; /* deleted names are judged too */
+    CHECK(zero_volume(sfs_open(image, 65536, NULL, 0), SFS_INDEX));
+    free(image);
+}
+
 int main(void) {
     empty_slices();
     formats_refused();
@@ -371,6 +445,9 @@ int main(void) {
     deletes();
     full_volume();
     listing();
+    names_refused();
+    names_in_utf8();
+    names_over_slots();
     printf("%d passed, %d failed\n", passed, failed);
     return failed != 0;
 }

@@ -1,5 +1,6 @@
 -- Names in UTF-8: RFC 3629's own examples, both sides of every edge, and names with accents on a volume.
 use Prim.Native.Nat.{ℕ}
+use Prim.Native.String.{String}
 use mathlib.Core.Bool.{true, false}
 use mathlib.Core.Path.{_≡_, refl}
 use mathlib.Core.List.{List, [], _∷_, _++_}
@@ -17,9 +18,9 @@ use Rattle.rules.specs.Text.{text}
 use Rattle.cases.proofs.Computing.{everything}
 use Rattle.cases.proofs.Runs.{refusals, refusalOf}
 
--- the characters of a text as UTF-8
-abbrev utf8 : List ℕ → List ℕ
-utf8 codes = encodeAll codes
+-- a text in UTF-8; `text` gives the codes of its characters
+abbrev utf8 : String → List ℕ
+utf8 s = encodeAll (text s)
 
 -- ---- RFC 3629, section 7: "A≢Α.", three characters of Korean and of Japanese, and U+233B4 behind a byte order mark
 pub rfc-greek : decode (0x41 ∷ 0xE2 ∷ 0x89 ∷ 0xA2 ∷ 0xCE ∷ 0x91 ∷ 0x2E ∷ []) ≡ some (0x41 ∷ 0x2262 ∷ 0x391 ∷ 0x2E ∷ [])
@@ -63,7 +64,7 @@ edges-bad = refl
 -- ---- lengths are bytes
 -- so many of U+233B4
 abbrev fours : ℕ → List ℕ
-fours n = utf8 (replicate n 0x233B4)
+fours n = encodeAll (replicate n 0x233B4)
 
 pub lengths :
     (newPathGood (fours 71 ++ text "a") ≡ true) × (newPathGood (fours 71 ++ text "ab") ≡ false)
@@ -73,7 +74,7 @@ lengths = (refl, refl, refl, refl)
 
 -- ---- the volume at the square
 abbrev square : List ℕ
-square = run (replicate 1_536 0) (format 512 1 (utf8 (text "À la page")) (pos 5) ∷ [])
+square = run (replicate 1_536 0) (format 512 1 (utf8 "À la page") (pos 5) ∷ [])
 
 pub square-name : openOf square (replicate 10 0) .output ≡ 0xC3 ∷ 0x80 ∷ text " la page"
 unfolding everything
@@ -86,7 +87,7 @@ one-byte = refl
 
 -- a file of 31 bytes of name, the last two of which are `é`, one in each slot
 abbrev straddling : List ℕ
-straddling = utf8 (text "prêts de la branche au marché")
+straddling = utf8 "prêts de la branche au marché"
 
 abbrev twoSlots : List Call
 twoSlots = format 512 1 [] (pos 5) ∷ create (newFile []) straddling (pos 6) ∷ []
