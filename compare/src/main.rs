@@ -1,21 +1,26 @@
 //! `compare SEED CALLS [KIND]`: a generated script on both stores, line by line. The first difference ends the run and prints a
-//! script that shows it. `compare bench`: open and find on a full 16 MiB volume, both programs in one run.
+//! script that shows it. `compare bench`: open and find on a full 16 MiB volume, both programs in one run. `compare names`: the
+//! name rule by both programs and by Rust's own reading of UTF-8, on every short string.
 
 mod bench;
 mod library;
+mod names;
 
 use library::Library;
 use second::generator;
 use second::script::Session;
 use std::process::ExitCode;
 
-const USAGE: &str = "usage: compare SEED CALLS [history|damage|built|edges|args]\n       compare bench";
+const USAGE: &str = "usage: compare SEED CALLS [history|damage|built|edges|args|names]
+       compare bench
+       compare names";
 
 fn main() -> ExitCode {
     let words: Vec<String> = std::env::args().skip(1).collect();
     let words: Vec<&str> = words.iter().map(String::as_str).collect();
     let outcome = match words.as_slice() {
         ["bench"] => bench::run(),
+        ["names"] => names::run(),
         [seed, calls] => compare(seed, calls, None),
         [seed, calls, kind] => compare(seed, calls, Some(kind)),
         _ => Err(USAGE.to_string()),

@@ -31,7 +31,7 @@ fn accepted(input: &[u8]) -> Result<Vec<u8>, Refusal> {
     Ok(text)
 }
 
-/// Paths are bytes and need not be text, so they are copied as they are.
+/// Paths are copied as they are stored: nothing in them is replaced or normalised.
 fn line(text: &mut Vec<u8>, entry: &Entry) {
     let letter = if entry.kind == FILE { 'F' } else { 'D' };
     let stamp = dates::text(entry.stamp);

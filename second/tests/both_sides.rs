@@ -109,8 +109,8 @@ fn listing_of_odd_volumes() {
     let mut image = vec![0; 4096];
     format(&mut image, 512, 1, b"", 0);
     assert_eq!(listing(&image), b"\nlive 0 held 0\n");
-    mkfile(&mut image, b"\xff", &[0; 600]);
+    mkfile(&mut image, b"\xc3\xbf", &[0; 600]);
     mkfile(&mut image, b"g", &[0; 100]);
     delete(&mut image, b"g", 0);
-    assert_eq!(listing(&image), b"\nF 600 1970-01-01T00:00:00Z \xff\nlive 1 held 3\n");
+    assert_eq!(listing(&image), b"\nF 600 1970-01-01T00:00:00Z \xc3\xbf\nlive 1 held 3\n");
 }

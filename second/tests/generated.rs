@@ -19,7 +19,7 @@ fn histories_hold() {
 
 #[test]
 fn scripts_are_the_same_every_time() {
-    for kind in ["history", "damage", "built", "edges", "args"] {
+    for kind in ["history", "damage", "built", "edges", "args", "names"] {
         let script = generator::script(3, 200, Some(kind));
         assert!(script.as_ref().is_some_and(|script| script.len() > 1000));
         assert_eq!(script, generator::script(3, 200, Some(kind)));
@@ -38,6 +38,96 @@ fn scripts_can_be_read() {
         assert!(!answer.is_ok_and(|text| text.is_some_and(|text| text.contains("FAILED"))), "{line}");
     }
     assert!(session.calls >= 10_000);
+}
+
+/// The word of a call that takes a name, the name, and the refusal number.
+type NamedCall = (String, Vec<u8>, u8);
+
+fn named_calls(kind: &str) -> Vec<NamedCall> {
+    let mut session = Session::without_digests();
+    let mut calls = Vec::new();
+    for line in generator::script(77, 8_000, Some(kind)).unwrap_or_default().lines() {
+        session.execute(line).unwrap();
+        let words: Vec<&str> = line.split(' ').collect();
+        let name = match words[0] {
+            "format" => words[3],
+            "find" | "read" | "mkfile" | "mkdir" | "delete" => words[1],
+            _ => continue,
+        };
+        let digits = if name == "-" { "" } else { name };
+        let bytes = (0..digits.len()).step_by(2).map(|at| u8::from_str_radix(&digits[at..at + 2], 16).unwrap());
+        calls.push((words[0].to_string(), bytes.collect(), session.last));
+    }
+    calls
+}
+
+/// Whether a character of the name lies across the end of a slot of its entry.
+fn straddles(word: &str, name: &[u8]) -> bool {
+    let first = if word == "mkdir" { 54 } else { 30 };
+    (first..name.len()).step_by(64).any(|end| (0x80..0xC0).contains(&name[end]))
+}
+
+/// How many of the calls answered this number and took such a name.
+fn met(calls: &[NamedCall], refusal: u8, test: impl Fn(&str, &[u8]) -> bool) -> usize {
+    calls.iter().filter(|(word, name, answer)| *answer == refusal && test(word, name)).count()
+}
+
+#[test]
+fn names_are_mixed() {
+    for kind in ["history", "built", "edges", "args", "names"] {
+        let calls = named_calls(kind);
+        let wide = |name: &[u8]| !name.is_ascii();
+        let made = met(&calls, 0, |word, name| word.starts_with("mk") && wide(name));
+        let made_plain = met(&calls, 0, |word, name| word.starts_with("mk") && !wide(name));
+        assert!(made > 40 && made_plain > 40, "{kind}: {made} {made_plain}");
+        // Built volumes are formatted by no call.
+        let formatted = met(&calls, 0, |word, name| word == "format" && wide(name));
+        assert!(formatted > 20 || kind == "built", "{kind}: {formatted}");
+        let refused = met(&calls, 10, |_, name| std::str::from_utf8(name).is_err());
+        assert!(refused > 20, "{kind}: {refused}");
+    }
+}
+
+#[test]
+fn names_of_every_width() {
+    let calls = named_calls("names");
+    for lead in [0xC2..=0xDF, 0xE0..=0xEF, 0xF0..=0xF4] {
+        let leads = |byte: Option<&u8>| byte.is_some_and(|byte| lead.contains(byte));
+        assert!(met(&calls, 0, |_, name| name.len() <= 4 && leads(name.first())) > 5, "{lead:x?} alone");
+        assert!(met(&calls, 0, |_, name| name.iter().skip(4).any(|byte| leads(Some(byte)))) > 5, "{lead:x?} later");
+        assert!(met(&calls, 10, |_, name| leads(name.last())) > 5, "{lead:x?} cut off");
+    }
+    assert!(met(&calls, 0, |word, name| word.starts_with("mk") && straddles(word, name)) > 5);
+    for refusal in [0, 10] {
+        let ends_wide = |name: &[u8], length: usize| name.len() == length && name[length - 1] >= 0x80;
+        assert!(met(&calls, refusal, |word, name| word.starts_with("mk") && ends_wide(name, 285)) > 5);
+        assert!(met(&calls, refusal, |word, name| word == "format" && ends_wide(name, 51)) > 5);
+    }
+}
+
+/// Two bytes that stand together in no name.
+type Fault = fn(u8, u8) -> bool;
+
+const FAULTS: [(&str, Fault); 9] = [
+    ("overlong, two bytes", |lead, _| matches!(lead, 0xC0 | 0xC1)),
+    ("overlong, three bytes", |lead, tail| lead == 0xE0 && (0x80..0xA0).contains(&tail)),
+    ("overlong, four bytes", |lead, tail| lead == 0xF0 && (0x80..0x90).contains(&tail)),
+    ("surrogate", |lead, tail| lead == 0xED && (0xA0..0xC0).contains(&tail)),
+    ("above", |lead, tail| lead == 0xF4 && (0x90..0xC0).contains(&tail)),
+    ("no lead", |lead, _| lead >= 0xF5),
+    ("lone tail", |before, tail| before < 0x80 && (0x80..0xC0).contains(&tail)),
+    ("refused code", |lead, tail| lead == 0xC2 && (0x80..0xA1).contains(&tail)),
+    ("separator inside", |lead, tail| lead >= 0xC2 && tail == b'/'),
+];
+
+#[test]
+fn names_with_every_fault() {
+    let calls = named_calls("names");
+    for (what, fault) in FAULTS {
+        let faulty = |name: &[u8]| name.windows(2).any(|pair| fault(pair[0], pair[1]));
+        assert!(met(&calls, 10, |_, name| faulty(name)) > 5, "{what}");
+        assert_eq!(met(&calls, 0, |_, name| faulty(name)), 0, "{what}");
+    }
 }
 
 /// Runs a script and gives the lines it prints.

@@ -88,7 +88,8 @@ fn paths_allowed_and_not() {
     let bad: Vec<u8> = (0..=0xFF).filter(|byte| find(&image, &[*byte]).refusal == 10).collect();
     let mut expected: Vec<u8> = (0..0x20).collect();
     expected.extend(b"\"*./:<>?\\");
-    expected.extend(0x7F..=0xA0);
+    // From 0x80 on no byte is a character by itself.
+    expected.extend(0x7F..=0xFF);
     assert_eq!(bad, expected);
     for path in [b"/a".as_slice(), b"a/", b"a//b", b"..", b"a/.", b"a/../b", b"/", b"//", b"./a"] {
         assert_eq!(find(&image, path).refusal, 10);
@@ -169,10 +170,10 @@ fn format_in_order() {
     assert_eq!(refused(4097, 512, 1, b""), 5);
     assert_eq!(refused(4096, 512, 1, &[b'n'; 51]), 0);
     assert_eq!(refused(4096, 512, 1, &[b'n'; 52]), 10);
-    for name in [b"a/b".as_slice(), b"a\0", b"\x7f", b"?"] {
+    for name in [b"a/b".as_slice(), b"a\0", b"\x7f", b"?", b"\xa1", b"\xc2\xa0"] {
         assert_eq!(refused(4096, 512, 1, name), 10);
     }
-    for name in [b".".as_slice(), b"..", b"", b"\xa1"] {
+    for name in [b".".as_slice(), b"..", b"", b"\xc2\xa1"] {
         assert_eq!(refused(4096, 512, 1, name), 0);
     }
 }
@@ -244,7 +245,7 @@ fn index_faults() {
     six(file + 1, &[255]);
     six(file + 34, &[b'f'; 30]);
     six(file + 34, &[0]);
-    for name in [b"/f\0".as_slice(), b"d/\0", b"d//f\0", b".\0", b"d/..\0", b"d\x1F\0", b"\xA0\0", b":\0"] {
+    for name in [b"/f\0".as_slice(), b"d/\0", b"d//f\0", b".\0", b"d/..\0", b"d\x1F\0", b"\xFF\0", b":\0"] {
         six(file + 34, name);
     }
     // A deleted entry's name is judged too.

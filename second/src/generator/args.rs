@@ -1,6 +1,6 @@
 //! Bad and extreme arguments on a healthy small volume.
 
-use super::{odd_path, volume_name, Writer};
+use super::{odd_path, text, volume_name, Writer};
 use crate::script::hex;
 
 pub fn scene(w: &mut Writer) {
@@ -68,9 +68,14 @@ fn format_argument(w: &mut Writer) {
     let near =
         [0, 1, 2, 3, total, total.wrapping_sub(1), total.wrapping_sub(2), 1 << 32, (1 << 32) + 1, 1 << 55, u64::MAX];
     let reserved = w.rng.pick(&near);
-    let name = match w.rng.below(4) {
+    // With numbers that are good the name decides.
+    let (block, reserved) = if w.rng.chance(35) { (512, 1) } else { (block, reserved) };
+    let length = 50 + w.rng.below(3) as usize;
+    let name = match w.rng.below(6) {
         0 => odd_path(&mut w.rng),
-        1 => vec![b'n'; 50 + w.rng.below(3) as usize],
+        1 => vec![b'n'; length],
+        2 => text::of_length(&mut w.rng, length),
+        3 => text::cut_off(&mut w.rng, length),
         _ => volume_name(&mut w.rng),
     };
     w.format(block, reserved, &name);

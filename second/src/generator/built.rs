@@ -1,7 +1,7 @@
 //! Images built slot by slot, with what no call of ours would leave: unusable entries, odd unused
 //! types, long names, runs longer than their names, gaps between regions, newer versions.
 
-use super::{least_reserved, odd_path, path_of_length, Writer};
+use super::{least_reserved, odd_path, path_of_length, text, volume_name, Writer};
 use crate::bytes::put;
 use crate::index::{DELETED_DIRECTORY, DELETED_FILE, DIRECTORY, FILE, IDENTIFIER, MARKER, UNUSABLE, UNUSED};
 use crate::superblock::{self, Geometry, CHECKSUM, MOST_INDEX, VERSION};
@@ -15,6 +15,8 @@ struct Builder {
     slot: u64,
     block: u64,
     serial: u64,
+    /// The path given out last.
+    path: Vec<u8>,
     /// What fills the bytes that nobody judges.
     rubbish: u8,
     directories: Vec<Vec<u8>>,
@@ -56,7 +58,7 @@ fn nearly_full_index(w: &mut Writer) {
     for _ in 0..5 {
         let length = w.rng.pick(&[1, 29, 30, 93, 94, 157, 158, 285]);
         let serial = w.serial();
-        let path = path_of_length(b"z", length, serial).split_off(2);
+        let path = path_of_length(&mut w.rng, b"z", length, serial).split_off(2);
         let room = w.rng.pick(&[0, 0, 1, block, 20_000]);
         w.mkfile(&path, room);
     }
@@ -90,11 +92,9 @@ impl Builder {
             put(&mut image, CHECKSUM, &[checksum]);
         }
         put(&mut image, geometry.slot_offset(0), &[MARKER]);
-        put(
-            &mut image,
-            geometry.slot_offset(geometry.slots() - 1),
-            &[IDENTIFIER, 0, 0, 0, 7, 0, 0, 0, 0, 0, 0, 0, b'V'],
-        );
+        let identifier = geometry.slot_offset(geometry.slots() - 1);
+        put(&mut image, identifier, &[IDENTIFIER, 0, 0, 0, 7]);
+        put(&mut image, identifier + 12, &volume_name(rng));
         let rubbish = rng.pick(&[0, 0, 1, 2, 0x12, 0x41, 0xFF]);
         Builder {
             image,
@@ -102,6 +102,7 @@ impl Builder {
             slot: 1,
             block: geometry.reserved,
             serial: 0,
+            path: b"0".to_vec(),
             rubbish,
             directories: vec![Vec::new()],
         }
@@ -151,9 +152,12 @@ impl Builder {
         let directory = rng.pick(&self.directories);
         // A deleted entry may have the path of a live one.
         let repeated = matches!(kind, DELETED_FILE | DELETED_DIRECTORY) && rng.chance(30);
-        self.serial += u64::from(!repeated);
-        let length = if rng.chance(70) { 0 } else { rng.pick(&[29, 30, 53, 54, 94, 285, 286, 300, 414, 700]) };
-        let path = path_of_length(&directory, length, self.serial);
+        if !repeated {
+            self.serial += 1;
+            let length = if rng.chance(70) { 0 } else { rng.pick(&[29, 30, 53, 54, 94, 285, 286, 300, 414, 700]) };
+            self.path = path_of_length(rng, &directory, length, self.serial);
+        }
+        let path = self.path.clone();
         let is_file = matches!(kind, FILE | DELETED_FILE);
         let first = if is_file { 30 } else { 54 };
         let needed = 1 + (path.len() + 1).saturating_sub(first).div_ceil(64) as u64;
@@ -194,18 +198,20 @@ impl Builder {
         self.slot += slots;
     }
 
-    /// One fault: a type that may not stand where it is, or a copied slot, which repeats a region
-    /// or a path.
+    /// One fault: a type that may not stand where it is, a copied slot, which repeats a region or a
+    /// path, or bad text in a name.
     fn spoil(&mut self, rng: &mut Xorshift) {
         let slot = 1 + rng.below(self.geometry.slots() - 2);
         let other = 1 + rng.below(self.geometry.slots() - 2);
         let at = self.geometry.slot_offset(slot);
         let from = self.geometry.slot_offset(other);
-        match rng.below(5) {
+        match rng.below(7) {
             4 => put(&mut self.image, at + 10, &(self.geometry.reserved + rng.below(4)).to_le_bytes()),
             0 => put(&mut self.image, at, &[rng.pick(&[0x01, 0x02, 0x20, 0x41, 0x7F, 0xFF])]),
             1 => put(&mut self.image, at, &[rng.below(0x20) as u8]),
             2 => put(&mut self.image, at + 1, &[rng.byte()]),
+            5 => put(&mut self.image, at + rng.pick(&[10, 34, 50]), &text::fault(rng)),
+            6 => put(&mut self.image, self.geometry.image as usize - 52, &text::faulty(rng, 10)),
             _ => self.image.copy_within(from..from + 64, at),
         }
     }
@@ -247,7 +253,7 @@ fn create(w: &mut Writer, directory: bool) -> u8 {
     let parent = if w.rng.chance(50) { w.rng.pick(&parents) } else { Vec::new() };
     let length = w.rng.pick(&[0, 0, 29, 30, 53, 54, 93, 94, 285]);
     let serial = w.serial();
-    let mut path = path_of_length(&parent, length, serial);
+    let mut path = path_of_length(&mut w.rng, &parent, length, serial);
     path.push(b'w');
     if directory {
         return w.mkdir(&path);

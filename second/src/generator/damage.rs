@@ -1,6 +1,6 @@
 //! A healthy volume with one field damaged at a time; after a few calls it is made whole again.
 
-use super::{least_reserved, volume_name, Known, Writer};
+use super::{least_reserved, text, volume_name, Known, Writer};
 use crate::index::{COUNT_AT, END_AT, LENGTH_AT, START_AT};
 use crate::superblock::{Geometry, BLOCK_SIZE, CHECKSUM, DATA, INDEX, MAGIC, RESERVED, STAMP, TOTAL, VERSION};
 use crate::volume::Volume;
@@ -11,6 +11,7 @@ struct Healthy {
     geometry: Geometry,
     spots: Vec<Spot>,
     live: Vec<Known>,
+    volume_name: Vec<u8>,
 }
 
 /// Where an entry lies.
@@ -43,15 +44,19 @@ fn volume(w: &mut Writer, block: u64) -> Option<Healthy> {
     w.put(format!("image {}", total * block));
     let name = volume_name(&mut w.rng);
     w.format(block, least_reserved(block), &name);
-    w.mkfile(b"gone", 2 * block);
+    let gone = [b"gone".to_vec(), text::few(&mut w.rng)].concat();
+    let old = [b"old".to_vec(), text::few(&mut w.rng)].concat();
+    w.mkfile(&gone, 2 * block);
     w.mkdir(b"d");
     w.mkfile(b"d/f", block + 1);
-    w.mkfile(&[b'g'; 30], 3);
+    let long = if w.rng.chance(40) { vec![b'g'; 30] } else { text::across(&mut w.rng, 30) };
+    w.mkfile(&long, 3);
     w.mkfile(b"empty", 0);
-    w.mkdir(b"old");
-    w.mkdir(&[[b'd'].as_slice(), b"/", &[b'h'; 52]].concat());
-    w.delete(b"gone");
-    w.delete(b"old");
+    w.mkdir(&old);
+    let long = if w.rng.chance(40) { vec![b'h'; 52] } else { text::across(&mut w.rng, 52) };
+    w.mkdir(&[b"d/".to_vec(), long].concat());
+    w.delete(&gone);
+    w.delete(&old);
     if w.rng.chance(50) {
         unusable(w);
     }
@@ -61,7 +66,7 @@ fn volume(w: &mut Writer, block: u64) -> Option<Healthy> {
 /// Turns the deleted directory's slot into an unusable entry on the last block of the data area.
 fn unusable(w: &mut Writer) {
     let Some(healthy) = healthy(w) else { return };
-    let Some(spot) = healthy.spots.iter().find(|spot| spot.name == b"old") else { return };
+    let Some(spot) = healthy.spots.iter().find(|spot| spot.name.starts_with(b"old")) else { return };
     let end = healthy.geometry.data_end();
     let data = healthy.geometry.data + 1;
     w.poke(DATA, &data.to_le_bytes());
@@ -80,18 +85,21 @@ fn healthy(w: &Writer) -> Option<Healthy> {
         slot: entry.slot,
         name: entry.path.to_vec(),
     });
-    Some(Healthy { image: w.image().to_vec(), geometry, spots: spots.collect(), live: w.live() })
+    let volume_name = volume.index.volume_name.to_vec();
+    Some(Healthy { image: w.image().to_vec(), geometry, spots: spots.collect(), live: w.live(), volume_name })
 }
 
 fn damage(w: &mut Writer, healthy: &Healthy) {
     let spot = w.rng.pick(&healthy.spots);
-    match w.rng.below(12) {
+    match w.rng.below(15) {
         0..=3 => super_field(w, healthy),
         4 => entry_type(w, &spot),
         5 => entry_count(w, healthy, &spot),
         6 | 7 => entry_number(w, healthy, &spot),
         8 | 9 => name(w, healthy, &spot),
         10 => marker(w, healthy),
+        11 | 12 if !spot.name.is_empty() => w.damage_name(spot.at + spot.name_at, &spot.name),
+        13 => volume_text(w, healthy),
         _ => anywhere(w, healthy),
     }
 }
@@ -230,6 +238,20 @@ fn marker(w: &mut Writer, healthy: &Healthy) {
             w.poke(last + 12 + place, &[bad]);
         }
     }
+}
+
+/// The volume name: damaged as it stands, or another with a fault, or one that fills its field.
+fn volume_text(w: &mut Writer, healthy: &Healthy) {
+    let at = healthy.image.len() - 52;
+    let length = 50 + w.rng.below(3) as usize;
+    let text = match w.rng.below(5) {
+        0 | 1 if !healthy.volume_name.is_empty() => return w.damage_name(at, &healthy.volume_name),
+        0..=2 => text::faulty(&mut w.rng, 12),
+        3 => text::of_length(&mut w.rng, length),
+        _ => text::cut_off(&mut w.rng, length),
+    };
+    // Of 52 bytes the zero is beyond the image, where pokes are dropped.
+    w.poke(at, &[text.as_slice(), b"\0"].concat());
 }
 
 /// A byte of the index area, or one that no answer may depend on.

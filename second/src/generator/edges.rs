@@ -1,6 +1,6 @@
 //! Edge lengths of images and outputs.
 
-use super::{least_reserved, volume_name, Writer};
+use super::{least_reserved, text, volume_name, Writer};
 use crate::script::hex;
 
 const LENGTHS: [u64; 22] = [
@@ -22,6 +22,10 @@ pub fn scene(w: &mut Writer) {
     let total = length / block;
     let least = least_reserved(block);
     let reserved = w.rng.pick(&[least, least, least, total.saturating_sub(2), total.saturating_sub(1)]);
+    if w.rng.chance(20) {
+        let cut_off = text::cut_off(&mut w.rng, 51);
+        w.format(block, reserved, &cut_off);
+    }
     let name = volume_name(&mut w.rng);
     let refused = w.format(block, reserved, &name);
     if length >= LARGE {
@@ -44,7 +48,10 @@ fn outputs(w: &mut Writer, name: u64, block: u64) {
     if w.mkfile(b"f", length) == 0 {
         around(w, &format!("read {}", hex(b"f")), length);
     }
-    let path = vec![b'p'; w.rng.pick(&[1, 29, 30, 93, 94, 285])];
+    let length = w.rng.pick(&[1, 29, 30, 93, 94, 285]);
+    let path = if w.rng.chance(50) { vec![b'p'; length] } else { text::of_length(&mut w.rng, length) };
+    let cut_off = text::cut_off(&mut w.rng, length);
+    w.mkdir(&cut_off);
     if w.mkdir(&path) == 0 {
         around(w, "list 0", path.len() as u64);
         around(w, "list 2", path.len() as u64);

@@ -1,7 +1,7 @@
 //! Histories: a format, then calls of all sorts until slots or blocks run out, then a look at
 //! everything that is left and the check of the history.
 
-use super::{least_reserved, odd_path, path_of_length, volume_name, Writer};
+use super::{least_reserved, odd_path, path_of_length, text, volume_name, Writer};
 use crate::script::hex;
 
 /// What the calls of one history mostly are.
@@ -14,6 +14,14 @@ enum Mode {
 }
 
 const EDGE_LENGTHS: [usize; 12] = [1, 29, 30, 53, 54, 93, 94, 117, 118, 284, 285, 286];
+/// Bytes of a name up to the end of a slot, for files and for directories.
+const SLOT_ENDS: [usize; 8] = [30, 54, 94, 118, 158, 182, 222, 246];
+/// Few enough to meet again; one letter comes in two ways, which are two paths.
+#[rustfmt::skip]
+const POOL: [&str; 17] = [
+    "a", "b", "ab", "ab/c", "a/b", "a/b/c", "ab/", "d", "d/x", "d/x/y", "À", "A\u{300}", "À/é", "À/é/€", "À la page",
+    "À la page/😀", "é/",
+];
 
 pub fn scene(w: &mut Writer) {
     let block = 256 << w.rng.below(5);
@@ -96,23 +104,27 @@ fn some_live(w: &mut Writer) -> Vec<u8> {
 }
 
 fn new_path(w: &mut Writer) -> Vec<u8> {
-    let pool: [&[u8]; 10] = [b"a", b"b", b"ab", b"ab/c", b"a/b", b"a/b/c", b"ab/", b"d", b"d/x", b"d/x/y"];
     match w.rng.below(20) {
-        0..=5 => w.rng.pick(&pool).to_vec(),
-        6..=9 => {
-            let directory = some_directory(w);
+        0..=5 => w.rng.pick(&POOL).as_bytes().to_vec(),
+        6..=8 => {
             let length = w.rng.pick(&EDGE_LENGTHS);
-            let serial = w.serial();
-            path_of_length(&directory, length, serial)
+            path_somewhere(w, length)
+        }
+        9 => {
+            let end = w.rng.pick(&SLOT_ENDS);
+            text::across(&mut w.rng, end)
         }
         10 => some_live(w),
         11 => [some_live(w), b"/x".to_vec()].concat(),
-        _ => {
-            let directory = some_directory(w);
-            let serial = w.serial();
-            path_of_length(&directory, 0, serial)
-        }
+        _ => path_somewhere(w, 0),
     }
+}
+
+/// A path of its own in some live directory.
+fn path_somewhere(w: &mut Writer, length: usize) -> Vec<u8> {
+    let directory = some_directory(w);
+    let serial = w.serial();
+    path_of_length(&mut w.rng, &directory, length, serial)
 }
 
 fn free_blocks(w: &Writer) -> u64 {
@@ -145,7 +157,7 @@ fn create_file(w: &mut Writer, block: u64) {
 fn create_empty(w: &mut Writer) {
     let length = w.rng.pick(&[0, 0, 0, 29, 30, 93, 94, 285]);
     let serial = w.serial();
-    let path = path_of_length(b"", length, serial);
+    let path = path_of_length(&mut w.rng, b"", length, serial);
     if w.rng.chance(70) {
         w.mkfile(&path, 0);
     } else {
@@ -158,7 +170,7 @@ fn create_directory(w: &mut Writer) {
         let directory =
             w.live().into_iter().filter(|known| known.directory).map(|known| known.path).max_by_key(Vec::len);
         let serial = w.serial();
-        path_of_length(&directory.unwrap_or_default(), 0, serial)
+        path_of_length(&mut w.rng, &directory.unwrap_or_default(), 0, serial)
     } else {
         new_path(w)
     };

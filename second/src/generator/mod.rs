@@ -6,6 +6,8 @@ mod built;
 mod damage;
 mod edges;
 mod history;
+mod names;
+mod text;
 
 use crate::index::Entry;
 use crate::script::{hex, Session};
@@ -16,12 +18,13 @@ use crate::xorshift::Xorshift;
 type Scene = fn(&mut Writer);
 
 /// The families of scenes, with the weight each has in a mixed script.
-const FAMILIES: [(&str, u64, Scene); 5] = [
+const FAMILIES: [(&str, u64, Scene); 6] = [
     ("history", 40, history::scene),
     ("damage", 20, damage::scene),
     ("built", 20, built::scene),
     ("edges", 8, edges::scene),
     ("args", 12, args::scene),
+    ("names", 12, names::scene),
 ];
 
 /// A script of about `count` calls, of one family or mixed; nothing when there is no such family.
@@ -153,6 +156,29 @@ impl Writer {
         }
     }
 
+    /// Damages a stored name, which starts at `at`: a byte of a character, a fault laid over some place, or
+    /// other text of the same length. No byte past the name changes.
+    pub fn damage_name(&mut self, at: usize, name: &[u8]) {
+        let place = self.rng.below(name.len() as u64) as usize;
+        match self.rng.below(5) {
+            0..=2 => {
+                let wide = text::wide_places(name);
+                let place = if wide.is_empty() { place } else { self.rng.pick(&wide) };
+                let byte = self.rng.pick(&CHARACTER_BYTES);
+                self.poke(at + place, &[byte]);
+            }
+            3 => {
+                let fault = text::fault(&mut self.rng);
+                self.poke(at + place, &fault[..fault.len().min(name.len() - place)]);
+            }
+            _ => {
+                let whole = self.rng.chance(50);
+                let other = if whole { text::of_length } else { text::cut_off }(&mut self.rng, name.len());
+                self.poke(at, &other);
+            }
+        }
+    }
+
     pub fn mkfile(&mut self, path: &[u8], length: u64) -> u8 {
         let stamp = self.stamp();
         let data = match length {
@@ -234,36 +260,62 @@ const ODD_PATHS: [&[u8]; 36] = [
     b"a.", b"..a", b"~", b"\xc3\xa4", b"\xff", b"a/\x01", b"a/b/c/d/e/f", b"no/such",
 ];
 
-/// One of the odd paths, at times a long one.
+/// Zero, a separator, and the edges of leads and tails.
+const CHARACTER_BYTES: [u8; 22] = [
+    0, 0, 0, b'/', b'a', 0x7F, 0x80, 0x81, 0x8F, 0x90, 0x9F, 0xA0, 0xBF, 0xC0, 0xC1, 0xC2, 0xE0, 0xED, 0xF0, 0xF4,
+    0xF5, 0xFF,
+];
+
+/// One of the odd paths, at times a long one or one with a fault in its text.
 pub fn odd_path(rng: &mut Xorshift) -> Vec<u8> {
+    let around = rng.below(12) as usize;
     match rng.below(40) {
         0 => vec![b'q'; 285],
         1 | 2 => vec![b'q'; 286],
         3 => vec![b'q'; 300 + rng.below(500) as usize],
+        4 => text::of_length(rng, 285 + around / 6),
+        5 => text::cut_off(rng, 285 + around / 6),
+        6..=18 => text::faulty(rng, around),
+        19 => text::few(rng),
         _ => rng.pick(&ODD_PATHS).to_vec(),
     }
 }
 
-/// A path of exactly `length` bytes below `directory`, if it is long enough to hold one.
-pub fn path_of_length(directory: &[u8], length: usize, serial: u64) -> Vec<u8> {
+/// A path of exactly `length` bytes below `directory`, if it is long enough to hold one. Most have characters of
+/// several bytes; the number makes it a path of its own.
+pub fn path_of_length(rng: &mut Xorshift, directory: &[u8], length: usize, serial: u64) -> Vec<u8> {
     let mut path = directory.to_vec();
     if !path.is_empty() {
         path.push(b'/');
     }
+    let mixed = rng.chance(60);
+    if mixed && (length == 0 || length > 20) {
+        path.extend(text::few(rng));
+    }
     path.extend_from_slice(serial.to_string().as_bytes());
+    if mixed {
+        let least = if length == 0 { rng.below(9) as usize } else { 0 };
+        path.extend(text::of_length(rng, length.saturating_sub(path.len()).max(least)));
+    }
     while path.len() < length {
         path.push(b'a' + (path.len() % 26) as u8);
     }
     path
 }
 
-/// A volume name of some length, the edges among them.
+/// An allowed volume name of some length, the edges among them.
 pub fn volume_name(rng: &mut Xorshift) -> Vec<u8> {
-    match rng.below(10) {
+    match rng.below(14) {
         0 => Vec::new(),
         1 => vec![b'N'; 51],
         2 => vec![b'N'; 50],
-        3 => rng.pick(&[b".".as_slice(), b"..", b"\xc3\xa9t\xc3\xa9", b"a b"]).to_vec(),
+        3 => rng.pick(&[b".".as_slice(), b"..", b"\xc3\xa9t\xc3\xa9", b"a b", b"\xc3\x80 la page"]).to_vec(),
+        4 | 5 => text::of_length(rng, 51),
+        6 | 7 => text::few(rng),
+        8 => {
+            let length = rng.below(52) as usize;
+            text::of_length(rng, length)
+        }
         _ => format!("TERM{}", rng.below(100)).into_bytes(),
     }
 }
