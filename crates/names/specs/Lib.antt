@@ -1,6 +1,5 @@
--- The rules as the code walks them: what a turn of a loop over bytes does, and the parts of a path as an automaton.
-pub mod Turns
+-- The rules as the code walks them: the parts of a path as an automaton, characters of one byte as bits, texts from within, and a reader of them.
 pub mod Automaton
 pub mod Masks
-pub mod Places
+pub mod Texts
 pub mod Reader

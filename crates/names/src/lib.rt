@@ -2,15 +2,15 @@
 
 ghost use mathlib.Core.Path.{_≡_};
 ghost use mathlib.Core.Bool.{_&&_, not};
-ghost use mathlib.Core.List.{List, [], _∷_};
+ghost use mathlib.Core.List.{List, _∷_};
 ghost use Prim.Native.Nat.{ℕ, _≤_};
 ghost use lib.Dec.{eqb, ltb};
 ghost use Rattle.rules.specs.Lists.{pick};
 ghost use Rattle.rules.specs.Names.{slash, dot, textGood, pathGood, newPathGood, volumeTextGood, volumeNameGood};
 ghost use Rattle.names.specs.Automaton.{partStep};
 ghost use Rattle.names.specs.Masks.{bitOf};
-ghost use Rattle.names.specs.Places.{asciiGood, goodFrom};
-ghost use Rattle.names.specs.Reader.{goodAt};
+ghost use Rattle.names.specs.Texts.{asciiGood, goodFrom};
+ghost use Rattle.names.specs.Reader.{goodAt, PathIn};
 
 // ---- characters of one byte
 
@@ -55,34 +55,34 @@ fn is_plain(b: u8) -> bool
 // ---- the name rule: an automaton, stepped byte by byte
 
 // Where a reader of a name stands: so many bytes are due to end the character that was begun, the next of them from low to high.
-struct Place {
+struct Reader {
     due: u8,
     low: u8,
     high: u8,
 }
 
 // Between two characters, where a name begins and may end.
-const BETWEEN: Place = Place {
+const BETWEEN: Reader = Reader {
     due: 0,
     low: 0x80,
     high: 0xBF,
 };
 
 // Nothing goes on from here: there is no byte from 1 to 0.
-const NOWHERE: Place = Place {
+const NOWHERE: Reader = Reader {
     due: 1,
     low: 1,
     high: 0,
 };
 
-fn due(n: u8, low: u8, high: u8) -> Place
+fn due(n: u8, low: u8, high: u8) -> Reader
     ensures { λ r. ⌜ ((bs : List ℕ) → goodAt r bs ≡ goodFrom n low high bs) ⌝ }
 {
-    Place { due: n, low, high }
+    Reader { due: n, low, high }
 }
 
 // After the first of two bytes. U+0080 to U+00A0 are in no name.
-fn first_of_two(b: u8) -> Place
+fn first_of_two(b: u8) -> Reader
     requires { ⌜ (0xC2 ≤ b) × (b ≤ 0xDF) ⌝ }
     ensures { λ r. ⌜ ((bs : List ℕ) → goodAt r bs ≡ textGood (b ∷ bs)) ⌝ }
 {
@@ -93,7 +93,7 @@ fn first_of_two(b: u8) -> Place
 }
 
 // After the first of three bytes. What two bytes can say is not said in three, and U+D800 to U+DFFF are no characters.
-fn first_of_three(b: u8) -> Place
+fn first_of_three(b: u8) -> Reader
     requires { ⌜ (0xE0 ≤ b) × (b ≤ 0xEF) ⌝ }
     ensures { λ r. ⌜ ((bs : List ℕ) → goodAt r bs ≡ textGood (b ∷ bs)) ⌝ }
 {
@@ -107,7 +107,7 @@ fn first_of_three(b: u8) -> Place
 }
 
 // After the first of four bytes. What three bytes can say is not said in four, and the last code is U+10FFFF.
-fn first_of_four(b: u8) -> Place
+fn first_of_four(b: u8) -> Reader
     requires { ⌜ (0xF0 ≤ b) × (b ≤ 0xF4) ⌝ }
     ensures { λ r. ⌜ ((bs : List ℕ) → goodAt r bs ≡ textGood (b ∷ bs)) ⌝ }
 {
@@ -121,7 +121,7 @@ fn first_of_four(b: u8) -> Place
 }
 
 // After the first byte of a character. 0x80 to 0xBF are first bytes of none, 0xC0 and 0xC1 of none that needs two.
-fn begun(b: u8) -> Place
+fn begun(b: u8) -> Reader
     ensures { λ r. ⌜ ((bs : List ℕ) → goodAt r bs ≡ textGood (b ∷ bs)) ⌝ }
 {
     if is_ascii(b) {
@@ -143,7 +143,7 @@ fn begun(b: u8) -> Place
 }
 
 // After one byte more.
-fn step(p: Place, b: u8) -> Place
+fn step(p: Reader, b: u8) -> Reader
     ensures { λ r. ⌜ ((bs : List ℕ) → goodAt r bs ≡ goodAt p (b ∷ bs)) ⌝ }
 {
     if p.due == 0 {
@@ -176,29 +176,59 @@ fn part_step(state: u8, b: u8) -> u8
     if state < 2 { state + 1 } else { 3 }
 }
 
-// The name rule and the rule on parts in one pass. Most bytes are plain characters, which begin nothing and end nothing.
-pub fn path_good(s: &[u8]) -> bool
-    ensures { λ r. ⌜ r ≡ pathGood (now (s .entry)) ⌝ }
+// What stands before the first zero byte, or is all there is: a path of so many bytes, or none.
+pub enum Path {
+    Bytes(usize),
+    Bad,
+}
+
+fn ended(reader: Reader, part: u8, n: usize) -> Path
+    ensures { λ r. ⌜ r ≡ pick (eqb (reader .due) 0 && eqb part 3) (Path.Bytes n) Path.Bad ⌝ }
 {
-    let mut place = BETWEEN;
+    if reader.due == 0 {
+        if part == 3 {
+            return Path::Bytes(n);
+        }
+    }
+    Path::Bad
+}
+
+// The name rule, the rule on parts and the search for the zero, in one pass. Most bytes are plain characters, which begin and end nothing.
+pub fn path_in(s: &[u8]) -> Path
+    ensures { λ r. ⌜ PathIn (now (s .entry)) r ⌝ }
+{
+    let mut reader = BETWEEN;
     let mut part: u8 = 0;
     let mut i: usize = 0;
     while i < s.len() {
         let b = s[i];
-        i += 1;
-        if place.due == 0 {
+        if reader.due == 0 {
             if is_plain(b) {
                 part = 3;
+                i += 1;
                 continue;
             }
         }
+        if b == 0 {
+            return ended(reader, part, i);
+        }
         part = part_step(part, b);
         if part == 4 {
-            return false;
+            return Path::Bad;
         }
-        place = step(place, b);
+        reader = step(reader, b);
+        i += 1;
     }
-    place.due == 0 && part == 3
+    ended(reader, part, i)
+}
+
+pub fn path_good(s: &[u8]) -> bool
+    ensures { λ r. ⌜ r ≡ pathGood (now (s .entry)) ⌝ }
+{
+    match path_in(s) {
+        Path::Bytes(n) => n == s.len(),
+        Path::Bad => false,
+    }
 }
 
 // A path to create.
@@ -213,17 +243,17 @@ pub fn new_path_good(s: &[u8]) -> bool
 pub fn volume_text_good(s: &[u8]) -> bool
     ensures { λ r. ⌜ r ≡ volumeTextGood (now (s .entry)) ⌝ }
 {
-    let mut place = BETWEEN;
+    let mut reader = BETWEEN;
     let mut i: usize = 0;
     while i < s.len() {
         let b = s[i];
         if b == b'/' {
             return false;
         }
-        place = step(place, b);
+        reader = step(reader, b);
         i += 1;
     }
-    place.due == 0
+    reader.due == 0
 }
 
 pub fn volume_name_good(s: &[u8]) -> bool

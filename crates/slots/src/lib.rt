@@ -1,5 +1,6 @@
 // Slots of the index area: the one owner of their layout in code. What a slot's first byte says, and an entry's fields and name.
 
+use names::Path;
 use units::Block;
 use units::Offset;
 use units::Slot;
@@ -195,11 +196,10 @@ pub fn name_field(img: &[u8], at: Offset) -> &[u8]
 pub fn name_good(field: &[u8]) -> bool
     ensures { λ r. ⌜ r ≡ nameGood (now (field .entry)) ⌝ }
 {
-    let n = fields::zero_at(field);
-    if n == field.len() {
-        return false;
+    match names::path_in(field) {
+        Path::Bytes(n) => n < field.len(),
+        Path::Bad => false,
     }
-    names::path_good(&field[..n])
 }
 
 // ---- an entry

@@ -1,7 +1,7 @@
 use mathlib.Core.Path.{sym, _∙_}
 use native.Mathlib.Omega.{arith}
 use borrow.Author.Needs.{needs}
-use Rattle.names.specs.Places.{begun-ascii, begun-none, begun-beyond}
+use Rattle.names.specs.Texts.{begun-ascii, begun-none, begun-beyond}
 use Rattle.names.proofs.begun.Statement.{statement}
 use Rattle.names.proofs.begun.Tie as tie
 

@@ -1,7 +1,7 @@
 use mathlib.Core.Path.{_∙_}
 use native.Mathlib.Omega.{arith}
 use borrow.Author.Needs.{needs}
-use Rattle.names.specs.Places.{begun-F0, begun-F4, begun-four}
+use Rattle.names.specs.Texts.{begun-F0, begun-F4, begun-four}
 use Rattle.names.proofs.first_of_four.Statement.{statement}
 use Rattle.names.proofs.first_of_four.Tie as tie
 

@@ -1,7 +1,7 @@
 use mathlib.Core.Path.{_∙_}
 use native.Mathlib.Omega.{arith}
 use borrow.Author.Needs.{needs}
-use Rattle.names.specs.Places.{begun-E0, begun-ED, begun-three}
+use Rattle.names.specs.Texts.{begun-E0, begun-ED, begun-three}
 use Rattle.names.proofs.first_of_three.Statement.{statement}
 use Rattle.names.proofs.first_of_three.Tie as tie
 

@@ -1,7 +1,7 @@
 use mathlib.Core.Path.{_∙_}
 use native.Mathlib.Omega.{arith}
 use borrow.Author.Needs.{needs}
-use Rattle.names.specs.Places.{begun-C2, begun-two}
+use Rattle.names.specs.Texts.{begun-C2, begun-two}
 use Rattle.names.proofs.first_of_two.Statement.{statement}
 use Rattle.names.proofs.first_of_two.Tie as tie
 

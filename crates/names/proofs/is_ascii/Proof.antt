@@ -2,7 +2,7 @@ use mathlib.Core.Path.{sym, _∙_}
 use borrow.Author.Needs.{needs}
 use borrow.Author.Tests.{le-ltb}
 use Rattle.names.specs.Masks.{name-bits}
-use Rattle.names.specs.Places.{ascii-low, ascii-high}
+use Rattle.names.specs.Texts.{ascii-low, ascii-high}
 use Rattle.names.proofs.is_ascii.Statement.{statement}
 use Rattle.names.proofs.is_ascii.Tie as tie
 

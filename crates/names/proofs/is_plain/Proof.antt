@@ -1,11 +1,8 @@
-use mathlib.Core.Path.{sym, _∙_}
-use mathlib.Core.Bool.{_&&_, not}
-use lib.Dec.{eqb}
+use mathlib.Core.Path.{_∙_}
 use borrow.Author.Needs.{needs}
 use borrow.Author.Tests.{le-ltb}
-use Rattle.rules.specs.Names.{slash, dot}
 use Rattle.names.specs.Masks.{part-bits}
-use Rattle.names.specs.Places.{ascii-low, ascii-high}
+use Rattle.names.specs.Texts.{ascii-low, ascii-high}
 use Rattle.names.proofs.is_plain.Statement.{statement}
 use Rattle.names.proofs.is_plain.Tie as tie
 

@@ -1,7 +1,7 @@
 use mathlib.Core.Path.{_∙_}
 use native.Mathlib.Omega.{arith}
 use borrow.Author.Needs.{needs}
-use Rattle.names.specs.Places.{from-begun, from-low, from-high, from-within}
+use Rattle.names.specs.Texts.{from-begun, from-low, from-high, from-within}
 use Rattle.names.proofs.step.Statement.{statement}
 use Rattle.names.proofs.step.Tie as tie
 

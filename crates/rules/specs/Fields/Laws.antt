@@ -5,7 +5,7 @@ use mathlib.Core.List.{List, [], _∷_, _++_, append-assoc, append-nil}
 use native.Mathlib.Numerals.{add-one, one-add}
 use native.Mathlib.Omega.{arith}
 use native.Mathlib.Nat.{add-zero, zero-add, add-assoc}
-use lib.ListN.{replicate, length-replicate, length, getD, take, drop, set, length-append, length-take, length-drop, take-append-drop, List·getD-append}
+use lib.ListN.{replicate, length-replicate, length, getD, take, drop, set, length-append, length-take, length-drop, take-append-drop, drop-of-length-le, List·getD-append}
 use lib.Seq.{drop-cons, drop-append-add, drop-drop, take-at, drop-at, drop-length, take-suc-set, drop-set-lt, getD-append-add, getD-take, getD-drop, length-take-le, take-append-add, take-append-seam}
 use borrow.Rule.Slice.PartMut.{putMid, post-is}
 use lib.Pow.{pow-add}
@@ -251,20 +251,25 @@ hasZero-ltb [] = refl
 hasZero-ltb (b ∷ bs) = has-by b bs (hasZero-ltb bs) (ℕ-discrete b 0)
 
 -- turns of a loop that looks for it
-pub zero-more : (s : List ℕ) (i : ℕ) → i < length s → (getD s i 0 ≡ 0 → ⊥) → (i + 1) + length (upToZero (drop (i + 1) s)) ≡ i + length (upToZero (drop i s))
-zero-more s i h z =
-    let e : upToZero (drop i s) ≡ getD s i 0 ∷ upToZero (drop (i + 1) s) =
-    ap upToZero (drop-cons s i 0 h) ∙ zero-cons (getD s i 0) (drop (suc i) s) z ∙ rw add-one in
-    rw e (omega arith)
+module _ (s : List ℕ) (i : ℕ) (h : i < length s) where
+  pub zero-next : (getD s i 0 ≡ 0 → ⊥) → upToZero (drop i s) ≡ getD s i 0 ∷ upToZero (drop (i + 1) s)
+  zero-next z = ap upToZero (drop-cons s i 0 h) ∙ zero-cons (getD s i 0) (drop (suc i) s) z ∙ rw add-one
 
-pub zero-found : (s : List ℕ) (i : ℕ) → i < length s → getD s i 0 ≡ 0 → i ≡ i + length (upToZero (drop i s))
-zero-found s i h z =
-    let e : upToZero (drop i s) ≡ [] = ap upToZero (drop-cons s i 0 h) ∙ zero-here (getD s i 0) (drop (suc i) s) z in
-    rw e (omega arith)
+  pub zero-last : getD s i 0 ≡ 0 → upToZero (drop i s) ≡ []
+  zero-last z = ap upToZero (drop-cons s i 0 h) ∙ zero-here (getD s i 0) (drop (suc i) s) z
+
+  pub zero-more : (getD s i 0 ≡ 0 → ⊥) → (i + 1) + length (upToZero (drop (i + 1) s)) ≡ i + length (upToZero (drop i s))
+  zero-more z = rw (zero-next z) (omega arith)
+
+  pub zero-found : getD s i 0 ≡ 0 → i ≡ i + length (upToZero (drop i s))
+  zero-found z = rw (zero-last z) (omega arith)
+
+pub zero-past : (s : List ℕ) (i : ℕ) → length s ≤ i → upToZero (drop i s) ≡ []
+unfolding upToZero
+zero-past s i h = rw (drop-of-length-le s {i = i} h)
 
 pub zero-none : (s : List ℕ) (i : ℕ) → i ≡ length s → i ≡ i + length (upToZero (drop i s))
-unfolding upToZero
-zero-none s i h = rw (h, drop-length) (omega arith)
+zero-none s i h = rw (zero-past s i (omega arith)) (omega arith)
 
 -- a number in what is left of a list
 pub le-drop : (w : ℕ) (s : List ℕ) (at o : ℕ) → le w (drop at s) o ≡ le w s (at + o)

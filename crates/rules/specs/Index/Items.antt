@@ -4,15 +4,14 @@ use mathlib.Core.Path.{_≡_, refl, sym, ap, _∙_}
 use mathlib.Core.Bool.{Bool, true, false, _||_, not}
 use mathlib.Core.List.{List, [], _∷_}
 use native.Mathlib.Omega.{arith}
-use lib.ListN.{length, getD, take, drop}
+use lib.ListN.{getD, take, drop}
 use lib.Seq.{drop-drop, getD-drop}
 use lib.Dec.{eqb, leb}
-use borrow.Author.Tests.{le-ltb, lt-ltb, le-leb, lt-leb, eq-eqb, ne-eqb, leb-true, leb-false, eqb-true, eqb-false}
+use borrow.Author.Tests.{le-leb, lt-leb, eq-eqb, ne-eqb, leb-true, leb-false, eqb-true, eqb-false}
 use Rattle.rules.specs.Lists.{pick, all}
 use Rattle.rules.specs.Lists.Laws.{clash, pick-true, pick-false, and-both, and-left, and-right, or-false, drop-take}
-use Rattle.rules.specs.Fields.{byteAt, le, upToZero, hasZero}
-use Rattle.rules.specs.Fields.Laws.{hasZero-ltb, upToZero-take, le-drop}
-use Rattle.rules.specs.Names.{pathGood}
+use Rattle.rules.specs.Fields.{byteAt, le}
+use Rattle.rules.specs.Fields.Laws.{le-drop}
 use Rattle.rules.specs.Index.Laws.{name-at-bounds}
 use Rattle.rules.specs.Index.{Entry, Item, unused, entry, fault, itemAt, runAt, entryAt, unusableAt, runSlots, nameField, nameGood, runType, strayType, typeUnusable, isFault, slotBytes, entriesOf, nameAt, fileType, fileField}
 use Rattle.rules.specs.Index.Walk.{walkAll, walk-unused, walk-entry, walk-fault, slotsOf}
@@ -92,17 +91,6 @@ module _ (left k : ℕ) (a : List ℕ) (more : 0 < left) where
   entries-entry x e = ap entriesOf (walk-entry left k a more x e)
 
 -- ---- names, in the forms that a program looks at them
--- by where the first zero lies
-pub name-unended : (f : List ℕ) (n : ℕ) → n ≡ length (upToZero f) → n ≡ length f → nameGood f ≡ false
-unfolding nameGood
-name-unended f n e h = and-left _ _ (hasZero-ltb f ∙ le-ltb (length (upToZero f)) (length f) (omega arith))
-
-pub name-ended : (f : List ℕ) (n : ℕ) → n ≡ length (upToZero f) → n ≤ length f → (n ≡ length f → ⊥) → nameGood f ≡ pathGood (take n f)
-unfolding nameGood
-name-ended f n e h d =
-    let z : hasZero f ≡ true = hasZero-ltb f ∙ lt-ltb (length (upToZero f)) (length f) (omega arith) in
-    rw (z, e) (ap pathGood (upToZero-take f))
-
 slots-low : (a : List ℕ) → 1 ≤ runSlots a
 unfolding runSlots
 slots-low a = omega arith

@@ -1,18 +1,19 @@
 -- Laws of names and paths: by cases, joined by a slash, and what is sure of one that is good.
-use Prim.Native.Nat.{ℕ, suc, _+_, _-_, _/_, _%_, _≤_, _<_}
+use Prim.Native.Nat.{ℕ, suc, _+_, _-_, _≤_, _<_}
 use mathlib.Core.Path.{_≡_, refl, sym, ap, _∙_}
 use mathlib.Core.Bool.{Bool, true, false, _&&_, not}
-use mathlib.Core.List.{List, [], _∷_, _++_, map, map-append, append-assoc}
+use mathlib.Core.List.{List, [], _∷_, _++_, map, map-append, append-assoc, append-nil}
 use mathlib.Core.Option.{Option, none, some}
 use native.Mathlib.Omega.{arith}
 use native.Mathlib.Decide.{decLt}
 use lib.ListN.{length, getD, take}
-use lib.Seq.{take-suc}
+use lib.Seq.{take-suc, take-length}
 use lib.Dec.{eqb, leb}
 use borrow.Author.Tests.{eq-eqb, ne-eqb, le-leb, lt-leb, leb-true}
 use Rattle.rules.specs.Lists.{pick, all, any, eqList}
 use Rattle.rules.specs.Lists.Laws.{clash, and-true, and-right}
 use Rattle.rules.specs.Fields.{upToZero}
+use Rattle.rules.specs.Fields.Laws.{zero-cons, zero-here, upToZero-take}
 use Rattle.rules.specs.Utf8.{within, encode, encodeAll, First, ill, char, firstChar, also, onward, decode}
 use Rattle.rules.specs.Utf8.Laws.{within-in, within-above, first-one, decode-equation, encode-one, encode-two, encode-three, encode-four, encode-decode}
 use Rattle.rules.specs.Names.{slash, isMark, codeGood, codesGood, textGood, intoFirst, parts, partGood, pathGood, newPathGood, volumeTextGood, volumeNameGood, leadIf, leading, isBelow}
@@ -75,38 +76,44 @@ ascii-text (b ∷ bs) e =
     text-ascii b bs (leb-true _ _ p) ∙ ap (λ t. codeGood b && t) (ascii-text bs q)
 
 -- a good text is the bytes of its codes, none of which has a zero byte, so that the first zero behind it ends the name
-kept : (b : ℕ) (bs : List ℕ) → 0 < b → upToZero (b ∷ bs) ≡ b ∷ upToZero bs
-unfolding upToZero pick
-kept b bs h = rw (ne-eqb b 0 (omega arith))
-
 module _ (c : ℕ) (bs : List ℕ) (e : codeGood c ≡ true) where
+  kept : (b : ℕ) (l m : List ℕ) → 0 < b → upToZero l ≡ m → upToZero (b ∷ l) ≡ b ∷ m
+  kept b l m h e = zero-cons b l (omega arith) ∙ ap (λ t. b ∷ t) e
+
   encode-kept : upToZero (encode c ++ bs) ≡ encode c ++ upToZero bs
   encode-kept = go (decLt 0x7F c) (decLt 0x7FF c) (decLt 0xFFFF c)
     where
       go : Dec (0x7F < c) → Dec (0x7FF < c) → Dec (0xFFFF < c) → upToZero (encode c ++ bs) ≡ encode c ++ upToZero bs
-      go (no h) i j = rw (encode-one c (omega arith)) (kept _ _ (omega (arith, good-least c e)))
-      go (yes h) (no i) j = rw (encode-two c h (omega arith)) (kept _ _ (omega arith) ∙ rw (kept (0x80 + c % 64) bs (omega arith)))
-      go (yes h) (yes i) (no j) =
-          rw (encode-three c i (omega arith))
-          (kept _ _ (omega arith) ∙ rw (kept (0x80 + c / 64 % 64) ((0x80 + c % 64) ∷ bs) (omega arith), kept (0x80 + c % 64) bs (omega arith)))
+      go (no h) i j = rw (encode-one c (omega arith)) (kept _ _ _ (omega (arith, good-least c e)) refl)
+      go (yes h) (no i) j = rw (encode-two c h (omega arith)) (kept _ _ _ (omega arith) (kept _ _ _ (omega arith) refl))
+      go (yes h) (yes i) (no j) = rw (encode-three c i (omega arith)) (kept _ _ _ (omega arith) (kept _ _ _ (omega arith) (kept _ _ _ (omega arith) refl)))
       go (yes h) (yes i) (yes j) =
-          rw (encode-four c j)
-          (kept _ _ (omega arith) ∙ rw (kept (0x80 + c / 4096 % 64) ((0x80 + c / 64 % 64) ∷ (0x80 + c % 64) ∷ bs) (omega arith), kept (0x80 + c / 64 % 64) ((0x80 + c % 64) ∷ bs) (omega arith), kept (0x80 + c % 64) bs (omega arith)))
+          rw (encode-four c j) (kept _ _ _ (omega arith) (kept _ _ _ (omega arith) (kept _ _ _ (omega arith) (kept _ _ _ (omega arith) refl))))
 
-codes-up-to-zero : (cs rest : List ℕ) → all codeGood cs ≡ true → upToZero (encodeAll cs ++ 0 ∷ rest) ≡ encodeAll cs
-unfolding encodeAll all upToZero pick
-codes-up-to-zero [] rest e = refl
-codes-up-to-zero (c ∷ cs) rest e =
+codes-kept : (cs bs : List ℕ) → all codeGood cs ≡ true → upToZero (encodeAll cs ++ bs) ≡ encodeAll cs ++ upToZero bs
+unfolding encodeAll all
+codes-kept [] bs e = refl
+codes-kept (c ∷ cs) bs e =
     let (p, q) = and-true (codeGood c) (all codeGood cs) e in
-    ap upToZero (append-assoc (encode c) (encodeAll cs) (0 ∷ rest)) ∙ encode-kept c _ p ∙ ap (λ l. encode c ++ l) (codes-up-to-zero cs rest q)
+    ap upToZero (append-assoc (encode c) (encodeAll cs) bs)
+    ∙ encode-kept c (encodeAll cs ++ bs) p
+    ∙ ap (λ l. encode c ++ l) (codes-kept cs bs q)
+    ∙ sym (append-assoc (encode c) (encodeAll cs) (upToZero bs))
+
+text-kept : (s bs : List ℕ) → textGood s ≡ true → upToZero (s ++ bs) ≡ s ++ upToZero bs
+unfolding textGood codesGood
+text-kept s bs e = by (decode s) refl e
+  where
+    by : (r : Option (List ℕ)) → decode s ≡ r → codesGood r ≡ true → upToZero (s ++ bs) ≡ s ++ upToZero bs
+    by none d g = clash (sym g)
+    by (some cs) d g = rw (← encode-decode s cs d .0) (codes-kept cs bs g)
 
 pub text-up-to-zero : (s rest : List ℕ) → textGood s ≡ true → upToZero (s ++ 0 ∷ rest) ≡ s
-unfolding textGood codesGood
-text-up-to-zero s rest e = by (decode s) refl e
-  where
-    by : (r : Option (List ℕ)) → decode s ≡ r → codesGood r ≡ true → upToZero (s ++ 0 ∷ rest) ≡ s
-    by none d g = clash (sym g)
-    by (some cs) d g = rw (← encode-decode s cs d .0) (codes-up-to-zero cs rest g)
+text-up-to-zero s rest e = text-kept s (0 ∷ rest) e ∙ ap (λ l. s ++ l) (zero-here 0 rest refl) ∙ append-nil s
+
+text-no-zero : (s : List ℕ) → textGood s ≡ true → upToZero s ≡ s
+unfolding upToZero
+text-no-zero s e = ap upToZero (sym (append-nil s)) ∙ text-kept s [] e ∙ append-nil s
 
 -- ---- parts
 -- there is always a first part
@@ -130,6 +137,25 @@ module _ (s : List ℕ) (e : pathGood s ≡ true) where
 
   pub path-up-to-zero : (rest : List ℕ) → upToZero (s ++ 0 ∷ rest) ≡ s
   path-up-to-zero rest = text-up-to-zero s rest path-text
+
+  path-no-zero : upToZero s ≡ s
+  path-no-zero = text-no-zero s path-text
+
+-- by what stands before the first zero of s, if there is one
+module _ (s : List ℕ) where
+  pub path-whole : pathGood (upToZero s) ≡ true → eqb (length (upToZero s)) (length s) ≡ pathGood s
+  path-whole e = by (pathGood s) refl
+    where
+      by : (t : Bool) → pathGood s ≡ t → eqb (length (upToZero s)) (length s) ≡ t
+      by true g = eq-eqb (length (upToZero s)) (length s) (ap length (path-no-zero s g))
+      by false g = ne-eqb (length (upToZero s)) (length s) (λ h. clash (sym e ∙ ap pathGood (upToZero-take s ∙ ap (λ k. take k s) h ∙ take-length s) ∙ g))
+
+  pub path-nowhere : pathGood (upToZero s) ≡ false → false ≡ pathGood s
+  path-nowhere e = by (pathGood s) refl
+    where
+      by : (t : Bool) → pathGood s ≡ t → false ≡ t
+      by true g = sym e ∙ ap pathGood (path-no-zero s g) ∙ g
+      by false g = refl
 
 -- ---- with a length
 pub new-path : (p : List ℕ) → newPathGood p ≡ true → (pathGood p ≡ true) × (length p ≤ 285)

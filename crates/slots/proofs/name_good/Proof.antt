@@ -1,26 +1,22 @@
-use mathlib.Core.Path.{sym, _∙_}
-use Rattle.rules.specs.Index.Items.{name-unended, name-ended}
-use lib.Seq.{length-take-le}
 use borrow.Author.Needs.{needs}
+use Rattle.names.specs.Reader.{field-path, no-field}
 use Rattle.slots.proofs.name_good.Statement.{statement}
 use Rattle.slots.proofs.name_good.Tie as tie
 
-zero-at-requires : tie.Need-zero-at-requires
-zero-at-requires c κs = search needs
+path-in-requires : tie.Need-path-in-requires
+path-in-requires c κs = search needs
+
+enum-known-n : tie.Need-enum-known-n
+enum-known-n c = search needs
+
+enum-told : tie.Need-enum-told
+enum-told c = search needs
 
 returns : tie.Need-returns
-returns c = sym (name-unended _ _ (c .before .zero-at .ensures .0) (c .if1 .taken))
-
-slice-aggregate-path-good : tie.Need-slice-aggregate-path-good
-slice-aggregate-path-good c = sym (length-take-le _ _ (c .before .before .zero-at .ensures .1))
-
-path-good-requires : tie.Need-path-good-requires
-path-good-requires c κs = search needs
+returns c = field-path _ _ (c .before .before .before .path-in .ensures) _ (c .before .n .given .1)
 
 returns-2 : tie.Need-returns-2
-returns-2 c = c .path-good .ensures ∙ sym (name-ended _ _ (c .before .before .before .zero-at .ensures .0) (c .before .before .before .zero-at .ensures .1) (c .before .before .if1 .left))
+returns-2 c = no-field _ _ (c .before .before .path-in .ensures) (c .enum-told .given .1)
 
 pub name-good-spec : {M : Type 1} → statement M
-name-good-spec =
-    tie.close
-    (tie.spec zero-at-requires returns slice-aggregate-path-good path-good-requires returns-2)
+name-good-spec = tie.close (tie.spec path-in-requires enum-known-n enum-told returns returns-2)

@@ -6,15 +6,12 @@ use mathlib.Core.List.{List, [], _∷_}
 use mathlib.Core.Logic.{_⊎_, inl, inr, ⊎-elim}
 use native.Mathlib.Omega.{arith}
 use native.Mathlib.Decide.{decLt}
-use native.Mathlib.Numerals.{add-one}
 use native.Mathlib.Nat.{mul-assoc, mul-le-mul-right}
-use lib.ListN.{length, getD, drop, drop-of-length-le}
-use lib.Seq.{drop-cons}
 use lib.Dec.{eqb, leb}
 use borrow.Author.Tests.{ne-eqb, le-leb, lt-leb, leb-true}
 use Rattle.rules.specs.Lists.{pick}
-use Rattle.rules.specs.Lists.Laws.{and-true, and-right}
-use Rattle.rules.specs.Utf8.{within, isCode, First, ill, char, tails, row, firstChar}
+use Rattle.rules.specs.Lists.Laws.{clash, and-true, and-right}
+use Rattle.rules.specs.Utf8.{within, isCode, ill, char, tails, row, firstChar}
 use Rattle.rules.specs.Utf8.Laws.{within-in, within-below, within-above, code-below, code-surrogate, code-above, first-stray, first-two, first-three, first-four, first-beyond}
 use Rattle.rules.specs.Names.{codeGood, textGood}
 use Rattle.rules.specs.Names.Laws.{good-low, good-control, good-high, goodFirst, text-nil, text-first, text-ascii}
@@ -148,6 +145,10 @@ module _ (b : ℕ) where
   unfolding asciiGood
   ascii-high h = rw (lt-leb b 0x7F h)
 
+  pub ascii-zero : asciiGood b ≡ true → b ≡ 0 → ⊥
+  unfolding asciiGood
+  ascii-zero e z = clash (sym (and-true (leb b 0x7F) (codeGood b) e .1) ∙ good-low b (omega arith))
+
 module _ (a : ℕ) (bs : List ℕ) where
   pub begun-ascii : asciiGood a ≡ true → goodFrom 0 0x80 0xBF bs ≡ textGood (a ∷ bs)
   unfolding asciiGood goodFrom
@@ -263,19 +264,12 @@ module _ (n lo hi b : ℕ) (bs : List ℕ) where
   pub from-within : 0 < n → lo ≤ b → b ≤ hi → goodFrom (n - 1) 0x80 0xBF bs ≡ goodFrom n lo hi (b ∷ bs)
   from-within h k l = sym (from-tail h ∙ rw (within-in lo hi b k l))
 
--- ---- the turns of a loop over the bytes
-pub from-start : (lo hi : ℕ) (s : List ℕ) → goodFrom 0 lo hi s ≡ textGood s
+-- ---- where a name starts, and where it may end
+pub from-start : (lo hi : ℕ) (bs : List ℕ) → goodFrom 0 lo hi bs ≡ textGood bs
 unfolding goodFrom
-from-start lo hi s = refl
+from-start lo hi bs = refl
 
-pub from-turn : (n lo hi m l h : ℕ) (s : List ℕ) (i : ℕ) → i < length s → ((bs : List ℕ) → goodFrom m l h bs ≡ goodFrom n lo hi (getD s i 0 ∷ bs))
-    → goodFrom m l h (drop (i + 1) s) ≡ goodFrom n lo hi (drop i s)
-from-turn n lo hi m l h s i k e = e (drop (i + 1) s) ∙ sym (rw (drop-cons s i 0 k, add-one))
-
-pub from-end : (n lo hi : ℕ) (s : List ℕ) (i : ℕ) → length s ≤ i → eqb n 0 ≡ goodFrom n lo hi (drop i s)
+pub from-nil : (n lo hi : ℕ) → eqb n 0 ≡ goodFrom n lo hi []
 unfolding goodFrom
-from-end n lo hi s i h = rw (drop-of-length-le s {i = i} h) (by n)
-  where
-    by : (n : ℕ) → eqb n 0 ≡ goodFrom n lo hi []
-    by zero = sym text-nil
-    by (suc n) = ne-eqb (suc n) 0 (omega arith)
+from-nil zero lo hi = sym text-nil
+from-nil (suc n) lo hi = ne-eqb (suc n) 0 (omega arith)
