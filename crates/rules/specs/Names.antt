@@ -1,23 +1,25 @@
 -- 01, "Index area", as K1 amends it: which characters, paths and volume names are allowed.
 use Prim.Native.Nat.{ℕ}
+use Prim.Native.Char.{code}
 use mathlib.Core.Bool.{Bool, true, false, _&&_, not}
 use mathlib.Core.List.{List, [], _∷_, map}
 use mathlib.Core.Option.{Option, none, some}
 use lib.ListN.{length}
 use lib.Dec.{eqb, leb}
 use Rattle.rules.specs.Lists.{pick, all, any, eqList}
+use Rattle.rules.specs.Text.{text}
 use Rattle.rules.specs.Utf8.{within, decode}
 pub mod Laws
 
 abbrev pub slash : ℕ
-slash = 0x2F
+slash = code "/"
 
 abbrev pub dot : ℕ
-dot = 0x2E
+dot = code "."
 
--- " * : < > ? and the backslash
+-- the seven marks, of which the last is the backslash
 unfoldable pub isMark : ℕ → Bool
-isMark c = any (eqb c) (0x22 ∷ 0x2A ∷ 0x3A ∷ 0x3C ∷ 0x3E ∷ 0x3F ∷ 0x5C ∷ [])
+isMark c = any (eqb c) (text "\"*:<>?\\")
 
 -- a character that a name may have, by its code: not below 0x20, not from 0x7F to 0xA0, and no mark
 unfoldable pub codeGood : ℕ → Bool
