@@ -92,7 +92,9 @@ straddling = utf8 "prêts de la branche au marché"
 abbrev twoSlots : List Call
 twoSlots = format 512 1 [] (pos 5) ∷ create (newFile []) straddling (pos 6) ∷ []
 
-pub straddles : refusals (replicate 1_536 0) (twoSlots ++ (find straddling ∷ delete straddling (pos 7) ∷ openVolume (replicate 1 0) ∷ [])) ≡ 0 ∷ 0 ∷ 0 ∷ 0 ∷ 0 ∷ []
+pub straddles :
+    refusals (replicate 1_536 0) (twoSlots ++ (find straddling ∷ delete straddling (pos 7) ∷ openVolume (replicate 1 0) ∷ []))
+    ≡ 0 ∷ 0 ∷ 0 ∷ 0 ∷ 0 ∷ []
 unfolding everything refusals refusalOf
 straddles = refl
 

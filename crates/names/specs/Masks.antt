@@ -12,6 +12,10 @@ use Rattle.rules.specs.Names.{slash, dot, isMark, codeGood}
 unfoldable pub bitOf : ℕ → ℕ → ℕ → Bool
 bitOf low high b = eqb (pick (ltb b 64) low high / 2 ^ (b % 64) % 2) 1
 
+-- neither slash nor dot, on which the parts of a path turn
+unfoldable pub turnsNothing : ℕ → Bool
+turnsNothing b = not (eqb b slash) && not (eqb b dot)
+
 -- the same answer, as an answer
 unfoldable agree : Bool → Bool → Bool
 agree true b = b
@@ -29,6 +33,6 @@ module _ (b : ℕ) (h : b < 128) where
   unfolding checked bitOf pick agree codeGood within isMark any
   name-bits = agreed _ _ (check-at (λ k. agree (bitOf 0x2BFFFBFB00000000 0x7FFFFFFFEFFFFFFF k) (codeGood k)) 128 b refl h)
 
-  pub part-bits : bitOf 0x2BFF3BFB00000000 0x7FFFFFFFEFFFFFFF b ≡ (codeGood b && not (eqb b slash) && not (eqb b dot))
-  unfolding checked bitOf pick agree codeGood within isMark any
-  part-bits = agreed _ _ (check-at (λ k. agree (bitOf 0x2BFF3BFB00000000 0x7FFFFFFFEFFFFFFF k) (codeGood k && not (eqb k slash) && not (eqb k dot))) 128 b refl h)
+  pub part-bits : bitOf 0x2BFF3BFB00000000 0x7FFFFFFFEFFFFFFF b ≡ (codeGood b && turnsNothing b)
+  unfolding checked bitOf pick agree codeGood within isMark any turnsNothing
+  part-bits = agreed _ _ (check-at (λ k. agree (bitOf 0x2BFF3BFB00000000 0x7FFFFFFFEFFFFFFF k) (codeGood k && turnsNothing k)) 128 b refl h)

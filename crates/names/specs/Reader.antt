@@ -17,6 +17,7 @@ use Rattle.rules.specs.Names.{slash, dot, textGood, pathGood, volumeTextGood}
 use Rattle.rules.specs.Names.Laws.{path-whole, path-nowhere}
 use Rattle.rules.specs.Index.{nameGood}
 use Rattle.names.specs.Automaton.{partStep, runParts, run-parts, run-bad, part-plain, part-most}
+use Rattle.names.specs.Masks.{turnsNothing}
 use Rattle.names.specs.Texts.{goodFrom, asciiGood, ascii-zero, from-ascii, from-nil}
 use Rattle.names.specs.declared.Reader.{Reader}
 use Rattle.names.specs.declared.Path.{Path}
@@ -92,13 +93,14 @@ abbrev pub PathAt : List ℕ → Reader → ℕ → ℕ → Type 0
 PathAt s r part i = (i ≤ length s) × (i + length (upToZero (drop i s)) ≡ length (upToZero s)) × Reached (upToZero s) (upToZero (drop i s)) r part
 
 module _ (s : List ℕ) (r : Reader) (part i : ℕ) (h : PathAt s r part i) where
-  pub plain-turn : i < length s → r .due ≡ 0 → (asciiGood (getD s i 0) && not (eqb (getD s i 0) slash) && not (eqb (getD s i 0) dot)) ≡ true → PathAt s r 3 (i + 1)
+  pub plain-turn : i < length s → r .due ≡ 0 → (asciiGood (getD s i 0) && turnsNothing (getD s i 0)) ≡ true → PathAt s r 3 (i + 1)
+  unfolding turnsNothing
   plain-turn l e f =
       let b = getD s i 0 in
-      let (f₁, f₂) = and-true (asciiGood b && not (eqb b slash)) (not (eqb b dot)) f in
-      let (f₃, f₄) = and-true (asciiGood b) (not (eqb b slash)) f₁ in
-      let z : b ≡ 0 → ⊥ = ascii-zero b f₃ in
-      (omega arith, zero-more s i l z ∙ h .1, on-plain (upToZero s) b _ r part (rw (← zero-next s i l z) (h .2)) e f₃ (not-true _ f₄) (not-true _ f₂))
+      let (g, k) = and-true (asciiGood b) (turnsNothing b) f in
+      let (m, n) = and-true (not (eqb b slash)) (not (eqb b dot)) k in
+      let z : b ≡ 0 → ⊥ = ascii-zero b g in
+      (omega arith, zero-more s i l z ∙ h .1, on-plain (upToZero s) b _ r part (rw (← zero-next s i l z) (h .2)) e g (not-true _ m) (not-true _ n))
 
   module _ (l : i < length s) (z : getD s i 0 ≡ 0 → ⊥) (q : ℕ) (e : q ≡ partStep part (getD s i 0)) where
     pub other-turn : (q ≡ 4 → ⊥) → (n : Reader) → ((bs : List ℕ) → goodAt n bs ≡ goodAt r (getD s i 0 ∷ bs)) → PathAt s n q (i + 1)

@@ -65,12 +65,12 @@ span zero = 1
 span (suc n) = 64 * span n
 
 -- all codes of which c are the first bits and n tails have the rest are allowed, or none
-abbrev Alike : ℕ → ℕ → Bool → ℕ → ℕ → Type 0
-Alike lo hi v n c = (k : ℕ) → c * span n ≤ k → k < (c + 1) * span n → allowed lo hi k ≡ v
+abbrev Uniform : ℕ → ℕ → Bool → ℕ → ℕ → Type 0
+Uniform lo hi v n c = (k : ℕ) → c * span n ≤ k → k < (c + 1) * span n → allowed lo hi k ≡ v
 
-alike-tail : (lo hi : ℕ) (v : Bool) (n c t : ℕ) → t < 64 → Alike lo hi v (suc n) c → Alike lo hi v n (c * 64 + t)
+uniform-tail : (lo hi : ℕ) (v : Bool) (n c t : ℕ) → t < 64 → Uniform lo hi v (suc n) c → Uniform lo hi v n (c * 64 + t)
 unfolding span
-alike-tail lo hi v n c t h f k l m =
+uniform-tail lo hi v n c t h f k l m =
     let up : c * 64 * span n ≤ (c * 64 + t) * span n = mul-le-mul-right (span n) (omega arith) in
     let down : (c * 64 + t + 1) * span n ≤ (c + 1) * 64 * span n = mul-le-mul-right (span n) (omega arith) in
     f k (omega (arith, l, up, mul-assoc c 64 (span n))) (omega (arith, m, down, mul-assoc (c + 1) 64 (span n)))
@@ -88,11 +88,12 @@ unfolding row goodFirst
 ill-row lo hi = refl
 
 -- then the row passes just where the tails are tails
-alike : (lo hi : ℕ) (v : Bool) (n c : ℕ) (bs : List ℕ) → Alike lo hi v n c → goodFirst (row lo hi (tails n c bs)) ≡ (v && goodFrom n 0x80 0xBF bs)
+uniform : (lo hi : ℕ) (v : Bool) (n c : ℕ) (bs : List ℕ) → Uniform lo hi v n c → goodFirst (row lo hi (tails n c bs)) ≡ (v && goodFrom n 0x80 0xBF bs)
 unfolding tails goodFrom span pick
-alike lo hi v zero c bs f = row-good lo hi c bs ∙ ap (λ t. t && textGood bs) (f c (omega arith) (omega arith))
-alike lo hi v (suc n) c [] f = ill-row lo hi ∙ sym (and-right v false refl)
-alike lo hi v (suc n) c (b ∷ bs) f = by (decLt b 0x80) (decLt 0xBF b) (λ h. alike lo hi v n (c * 64 + (b - 0x80)) bs (alike-tail lo hi v n c (b - 0x80) h f))
+uniform lo hi v zero c bs f = row-good lo hi c bs ∙ ap (λ t. t && textGood bs) (f c (omega arith) (omega arith))
+uniform lo hi v (suc n) c [] f = ill-row lo hi ∙ sym (and-right v false refl)
+uniform lo hi v (suc n) c (b ∷ bs) f =
+    by (decLt b 0x80) (decLt 0xBF b) (λ h. uniform lo hi v n (c * 64 + (b - 0x80)) bs (uniform-tail lo hi v n c (b - 0x80) h f))
   where
     Passes : Type 0
     Passes = goodFirst (row lo hi (pick (within 0x80 0xBF b) (tails n (c * 64 + (b - 0x80)) bs) ill)) ≡ (v && (within 0x80 0xBF b && goodFrom n 0x80 0xBF bs))
@@ -107,8 +108,8 @@ alike lo hi v (suc n) c (b ∷ bs) f = by (decLt b 0x80) (decLt 0xBF b) (λ h. a
 
 -- where the tail next to the first byte parts them, so that those from a to z are allowed and no others
 led : (lo hi n c a z : ℕ) → 0x80 ≤ a → z ≤ 0xBF
-    → ((b : ℕ) → a ≤ b → b ≤ z → Alike lo hi true n (c * 64 + (b - 0x80)))
-    → ((b : ℕ) → 0x80 ≤ b → b ≤ 0xBF → (b < a) ⊎ (z < b) → Alike lo hi false n (c * 64 + (b - 0x80)))
+    → ((b : ℕ) → a ≤ b → b ≤ z → Uniform lo hi true n (c * 64 + (b - 0x80)))
+    → ((b : ℕ) → 0x80 ≤ b → b ≤ 0xBF → (b < a) ⊎ (z < b) → Uniform lo hi false n (c * 64 + (b - 0x80)))
     → (bs : List ℕ) → goodFirst (row lo hi (tails (suc n) c bs)) ≡ goodFrom (suc n) a z bs
 unfolding tails goodFrom pick
 led lo hi n c a z p q good bad [] = ill-row lo hi
@@ -121,7 +122,7 @@ led lo hi n c a z p q good bad (b ∷ bs) = by (decLt b 0x80) (decLt 0xBF b) (de
     out e f = rw (e, f) (ill-row lo hi)
 
     in-tail : 0x80 ≤ b → b ≤ 0xBF → (b < a) ⊎ (z < b) → within a z b ≡ false → Passes
-    in-tail h k l f = rw (within-in 0x80 0xBF b h k, f) (alike lo hi false n _ bs (bad b h k l))
+    in-tail h k l f = rw (within-in 0x80 0xBF b h k, f) (uniform lo hi false n _ bs (bad b h k l))
 
     by : Dec (b < 0x80) → Dec (0xBF < b) → Dec (b < a) → Dec (z < b) → Passes
     by (yes h) k l m = out (within-below 0x80 0xBF b h) (within-below a z b (omega arith))
@@ -130,7 +131,7 @@ led lo hi n c a z p q good bad (b ∷ bs) = by (decLt b 0x80) (decLt 0xBF b) (de
     by (no h) (no k) (no l) (yes m) = in-tail (omega arith) (omega arith) (inr m) (within-above a z b m)
     by (no h) (no k) (no l) (no m) =
         rw (within-in 0x80 0xBF b (omega arith) (omega arith), within-in a z b (omega arith) (omega arith))
-        (alike lo hi true n _ bs (good b (omega arith) (omega arith)))
+        (uniform lo hi true n _ bs (good b (omega arith) (omega arith)))
 
 -- ---- WHAT MAY FOLLOW A FIRST BYTE: RFC 3629, section 4, without the codes that no name has
 unfoldable pub asciiGood : ℕ → Bool
@@ -171,7 +172,9 @@ module _ (a : ℕ) (bs : List ℕ) where
           let g : codeGood a ≡ false = sym (rw (le-leb a 0x7F (omega arith))) ∙ e in
           text-ascii a bs (omega arith) ∙ rw g
       by (no k) (yes l) = ill-first (first-stray a bs (omega arith) (omega arith))
-      by (no k) (no l) = text-first a bs ∙ rw (first-two a bs (omega arith) (omega arith)) (alike _ _ false 1 _ bs (λ k l m. allowed-short _ _ k (omega arith)))
+      by (no k) (no l) =
+          text-first a bs ∙ rw (first-two a bs (omega arith) (omega arith))
+          (uniform _ _ false 1 _ bs (λ k l m. allowed-short _ _ k (omega arith)))
 
   -- behind 0xC2 the controls up to 0xA0 come first
   pub begun-C2 : a ≡ 0xC2 → goodFrom 1 0xA1 0xBF bs ≡ textGood (a ∷ bs)
@@ -185,7 +188,7 @@ module _ (a : ℕ) (bs : List ℕ) where
   unfolding span
   begun-two h k =
       sym (text-first a bs ∙ rw (first-two a bs (omega arith) k)
-      (alike _ _ true 1 _ bs (λ c l m. allowed-low _ _ c (omega arith) (omega arith) (omega arith) (omega arith))))
+      (uniform _ _ true 1 _ bs (λ c l m. allowed-low _ _ c (omega arith) (omega arith) (omega arith) (omega arith))))
 
   -- behind 0xE0, below 0xA0, stands what two bytes can say
   pub begun-E0 : a ≡ 0xE0 → goodFrom 2 0xA0 0xBF bs ≡ textGood (a ∷ bs)
@@ -205,7 +208,7 @@ module _ (a : ℕ) (bs : List ℕ) where
 
   pub begun-three : 0xE1 ≤ a → (a ≡ 0xED → ⊥) → a ≤ 0xEF → goodFrom 2 0x80 0xBF bs ≡ textGood (a ∷ bs)
   unfolding span
-  begun-three h d k = sym (text-first a bs ∙ rw (first-three a bs (omega arith) k) (alike _ _ true 2 _ bs (λ c l m. by c l m (decLt a 0xED))))
+  begun-three h d k = sym (text-first a bs ∙ rw (first-three a bs (omega arith) k) (uniform _ _ true 2 _ bs (λ c l m. by c l m (decLt a 0xED))))
     where
       by : (c : ℕ) → (a - 0xE0) * span 2 ≤ c → c < (a - 0xE0 + 1) * span 2 → Dec (a < 0xED) → allowed 0x800 0xFFFF c ≡ true
       by c l m (yes u) = allowed-low _ _ c (omega arith) (omega arith) (omega arith) (omega arith)
@@ -231,14 +234,14 @@ module _ (a : ℕ) (bs : List ℕ) where
   unfolding span
   begun-four h k =
       sym (text-first a bs ∙ rw (first-four a bs (omega arith) (omega arith))
-      (alike _ _ true 3 _ bs (λ c l m. allowed-high _ _ c (omega arith) (omega arith) (omega arith) (omega arith))))
+      (uniform _ _ true 3 _ bs (λ c l m. allowed-high _ _ c (omega arith) (omega arith) (omega arith) (omega arith))))
 
   pub begun-beyond : 0xF5 ≤ a → goodFrom 1 1 0 bs ≡ textGood (a ∷ bs)
   unfolding span
   begun-beyond h = none (by (decLt a 0xF8))
     where
       by : Dec (a < 0xF8) → textGood (a ∷ bs) ≡ false
-      by (yes k) = text-first a bs ∙ rw (first-four a bs (omega arith) (omega arith)) (alike _ _ false 3 _ bs (λ c l m. allowed-beyond _ _ c (omega arith)))
+      by (yes k) = text-first a bs ∙ rw (first-four a bs (omega arith) (omega arith)) (uniform _ _ false 3 _ bs (λ c l m. allowed-beyond _ _ c (omega arith)))
       by (no k) = ill-first (first-beyond a bs (omega arith))
 
 -- ---- one byte more, from any place

@@ -1,14 +1,14 @@
 // The name rule and the path rules, over the bytes of a name.
 
 ghost use mathlib.Core.Path.{_≡_};
-ghost use mathlib.Core.Bool.{_&&_, not};
+ghost use mathlib.Core.Bool.{_&&_};
 ghost use mathlib.Core.List.{List, _∷_};
 ghost use Prim.Native.Nat.{ℕ, _≤_};
 ghost use lib.Dec.{eqb, ltb};
 ghost use Rattle.rules.specs.Lists.{pick};
-ghost use Rattle.rules.specs.Names.{slash, dot, textGood, pathGood, newPathGood, volumeTextGood, volumeNameGood};
+ghost use Rattle.rules.specs.Names.{textGood, pathGood, newPathGood, volumeTextGood, volumeNameGood};
 ghost use Rattle.names.specs.Automaton.{partStep};
-ghost use Rattle.names.specs.Masks.{bitOf};
+ghost use Rattle.names.specs.Masks.{bitOf, turnsNothing};
 ghost use Rattle.names.specs.Texts.{asciiGood, goodFrom};
 ghost use Rattle.names.specs.Reader.{goodAt, PathIn};
 
@@ -47,7 +47,7 @@ fn is_ascii(b: u8) -> bool
 
 // The same, but neither slash nor dot.
 fn is_plain(b: u8) -> bool
-    ensures { λ r. ⌜ r ≡ (asciiGood b && not (eqb b slash) && not (eqb b dot)) ⌝ }
+    ensures { λ r. ⌜ r ≡ (asciiGood b && turnsNothing b) ⌝ }
 {
     b < 128 && bit(PART, NAME_HIGH, b)
 }

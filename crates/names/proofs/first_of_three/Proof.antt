@@ -5,23 +5,14 @@ use Rattle.names.specs.Texts.{begun-E0, begun-ED, begun-three}
 use Rattle.names.proofs.first_of_three.Statement.{statement}
 use Rattle.names.proofs.first_of_three.Tie as tie
 
-due-requires : tie.Need-due-requires
-due-requires c κs = search needs
-
 returns : tie.Need-returns
 returns c bs = c .due .ensures bs ∙ begun-E0 _ bs (omega arith)
 
-due-requires-2 : tie.Need-due-requires-2
-due-requires-2 c κs = search needs
-
 returns-2 : tie.Need-returns-2
 returns-2 c bs = c .due2 .ensures bs ∙ begun-ED _ bs (omega arith)
-
-due-requires-3 : tie.Need-due-requires-3
-due-requires-3 c κs = search needs
 
 returns-3 : tie.Need-returns-3
 returns-3 c bs = c .due3 .ensures bs ∙ begun-three _ bs (omega arith) (c .before .if2 .left) (omega arith)
 
 pub first-of-three-spec : {M : Type 1} → statement M
-first-of-three-spec = tie.close (tie.spec due-requires returns due-requires-2 returns-2 due-requires-3 returns-3)
+first-of-three-spec = tie.close (tie.spec (λ c κs. search needs) returns (λ c κs. search needs) returns-2 (λ c κs. search needs) returns-3)

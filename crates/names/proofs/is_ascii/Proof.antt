@@ -6,9 +6,6 @@ use Rattle.names.specs.Texts.{ascii-low, ascii-high}
 use Rattle.names.proofs.is_ascii.Statement.{statement}
 use Rattle.names.proofs.is_ascii.Tie as tie
 
-bit-requires : tie.Need-bit-requires
-bit-requires c κs = search needs
-
 returns : tie.Need-returns
 returns c = c .bit .ensures ∙ name-bits _ (c .before .if1 .taken) ∙ ascii-low _ (c .before .if1 .taken)
 
@@ -16,4 +13,4 @@ returns-2 : tie.Need-returns-2
 returns-2 c = le-ltb _ _ (c .if1 .left) ∙ sym (ascii-high _ (c .if1 .left))
 
 pub is-ascii-spec : {M : Type 1} → statement M
-is-ascii-spec = tie.close (tie.spec bit-requires returns returns-2)
+is-ascii-spec = tie.close (tie.spec (λ c κs. search needs) returns returns-2)

@@ -19,55 +19,25 @@ abbrev μ-loop : tie.MeasureT-loop
 loop-holds : tie.Need-loop-holds Inv-loop μ-loop
 loop-holds c = (search needs, omega arith, (omega arith, from-start _ _ _, refl))
 
-shared-slice-read-b : tie.Need-shared-slice-read-b Inv-loop μ-loop
-shared-slice-read-b c = search needs
-
-is-plain-requires : tie.Need-is-plain-requires Inv-loop μ-loop
-is-plain-requires c κs = search needs
-
-add-i : tie.Need-add-i Inv-loop μ-loop
-add-i c = search needs
-
-loop-less : tie.Need-loop-less Inv-loop μ-loop
-loop-less c = search needs
-
 loop-again : tie.Need-loop-again Inv-loop μ-loop
 loop-again c =
     let here = c .before .before .before .before .before in
     plain-turn _ _ _ _ (here .before .loop .inv) (here .loop-test .taken) (c .before .before .if1 .taken) (sym (c .before .is-plain .ensures) ∙ c .if2 .taken)
-
-ended-requires : tie.Need-ended-requires Inv-loop μ-loop
-ended-requires c κs = search needs
 
 returns : tie.Need-returns Inv-loop μ-loop
 returns c =
     let here = c .before .before .before .before .before in
     path-ended _ _ _ _ (here .before .loop .inv) (zero-last _ _ (here .loop-test .taken) (c .before .if3 .taken)) _ (c .ended .ensures)
 
-part-step-requires : tie.Need-part-step-requires Inv-loop μ-loop
-part-step-requires c κs = search needs
-
 returns-2 : tie.Need-returns-2 Inv-loop μ-loop
 returns-2 c =
     let here = c .before .before .before .before .before .before in
     bad-part _ _ _ _ (here .before .loop .inv) (here .loop-test .taken) (c .before .before .if3 .left) _ (c .before .part-step .ensures) (c .if4 .taken)
 
-step-requires : tie.Need-step-requires Inv-loop μ-loop
-step-requires c κs = search needs
-
-add-i-2 : tie.Need-add-i-2 Inv-loop μ-loop
-add-i-2 c = search needs
-
-loop-less-2 : tie.Need-loop-less-2 Inv-loop μ-loop
-loop-less-2 c = search needs
-
 loop-again-2 : tie.Need-loop-again-2 Inv-loop μ-loop
 loop-again-2 c =
     let here = c .before .before .before .before .before .before .before in
     other-turn _ _ _ _ (here .before .loop .inv) (here .loop-test .taken) (c .before .before .before .if3 .left) _ (c .before .before .part-step .ensures) (c .before .if4 .left) _ (c .step .ensures)
-
-ended-requires-2 : tie.Need-ended-requires-2 Inv-loop μ-loop
-ended-requires-2 c κs = search needs
 
 returns-3 : tie.Need-returns-3 Inv-loop μ-loop
 returns-3 c = path-ended _ _ _ _ (c .before .before .loop .inv) (zero-past _ _ (c .before .loop-test .left)) _ (c .ended2 .ensures)
@@ -79,18 +49,18 @@ path-in-spec =
     Inv-loop
     μ-loop
     loop-holds
-    shared-slice-read-b
-    is-plain-requires
-    add-i
-    loop-less
+    (λ c. search needs)
+    (λ c κs. search needs)
+    (λ c. search needs)
+    (λ c. search needs)
     loop-again
-    ended-requires
+    (λ c κs. search needs)
     returns
-    part-step-requires
+    (λ c κs. search needs)
     returns-2
-    step-requires
-    add-i-2
-    loop-less-2
+    (λ c κs. search needs)
+    (λ c. search needs)
+    (λ c. search needs)
     loop-again-2
-    ended-requires-2
+    (λ c κs. search needs)
     returns-3)

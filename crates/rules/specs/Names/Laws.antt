@@ -21,7 +21,16 @@ use Rattle.rules.specs.Names.{slash, isMark, codeGood, codesGood, textGo
 -- ---- codes
 mark-high : (c : ℕ) → 0x7F ≤ c → isMark c ≡ false
 unfolding isMark any
-mark-high c h = rw (ne-eqb c 0x22 (omega arith), ne-eqb c 0x2A (omega arith), ne-eqb c 0x3A (omega arith), ne-eqb c 0x3C (omega arith), ne-eqb c 0x3E (omega arith), ne-eqb c 0x3F (omega arith), ne-eqb c 0x5C (omega arith))
+mark-high c h =
+    rw (
+      ne-eqb c 0x22 (omega arith),
+      ne-eqb c 0x2A (omega arith),
+      ne-eqb c 0x3A (omega arith),
+      ne-eqb c 0x3C (omega arith),
+      ne-eqb c 0x3E (omega arith),
+      ne-eqb c 0x3F (omega arith),
+      ne-eqb c 0x5C (omega arith),
+    )
 
 module _ (c : ℕ) where
   pub good-low : c < 0x20 → codeGood c ≡ false
@@ -38,7 +47,9 @@ module _ (c : ℕ) where
 
   good-least : codeGood c ≡ true → 0x20 ≤ c
   unfolding codeGood
-  good-least e = let p = and-true (leb 0x20 c && not (within 0x7F 0xA0 c)) (not (isMark c)) e in leb-true _ _ (and-true (leb 0x20 c) (not (within 0x7F 0xA0 c)) (p .0) .0)
+  good-least e =
+      let p = and-true (leb 0x20 c && not (within 0x7F 0xA0 c)) (not (isMark c)) e in
+      leb-true _ _ (and-true (leb 0x20 c) (not (within 0x7F 0xA0 c)) (p .0) .0)
 
 -- ---- texts, character by character
 pub text-nil : textGood [] ≡ true

@@ -53,7 +53,13 @@ module _ (a : ℕ) (bs : List ℕ) where
 
   pub first-stray : 0x80 ≤ a → a ≤ 0xBF → firstChar (a ∷ bs) ≡ ill
   unfolding firstChar pick
-  first-stray h k = rw (within-above 0x00 0x7F a h, within-below 0xC0 0xDF a (omega arith), within-below 0xE0 0xEF a (omega arith), within-below 0xF0 0xF7 a (omega arith))
+  first-stray h k =
+      rw (
+        within-above 0x00 0x7F a h,
+        within-below 0xC0 0xDF a (omega arith),
+        within-below 0xE0 0xEF a (omega arith),
+        within-below 0xF0 0xF7 a (omega arith),
+      )
 
   pub first-two : 0xC0 ≤ a → a ≤ 0xDF → firstChar (a ∷ bs) ≡ row 0x80 0x7FF (tails 1 (a - 0xC0) bs)
   unfolding firstChar pick
@@ -65,11 +71,23 @@ module _ (a : ℕ) (bs : List ℕ) where
 
   pub first-four : 0xF0 ≤ a → a ≤ 0xF7 → firstChar (a ∷ bs) ≡ row 0x10000 0x10FFFF (tails 3 (a - 0xF0) bs)
   unfolding firstChar pick
-  first-four h k = rw (within-above 0x00 0x7F a (omega arith), within-above 0xC0 0xDF a (omega arith), within-above 0xE0 0xEF a (omega arith), within-in 0xF0 0xF7 a h k)
+  first-four h k =
+      rw (
+        within-above 0x00 0x7F a (omega arith),
+        within-above 0xC0 0xDF a (omega arith),
+        within-above 0xE0 0xEF a (omega arith),
+        within-in 0xF0 0xF7 a h k,
+      )
 
   pub first-beyond : 0xF8 ≤ a → firstChar (a ∷ bs) ≡ ill
   unfolding firstChar pick
-  first-beyond h = rw (within-above 0x00 0x7F a (omega arith), within-above 0xC0 0xDF a (omega arith), within-above 0xE0 0xEF a (omega arith), within-above 0xF0 0xF7 a (omega arith))
+  first-beyond h =
+      rw (
+        within-above 0x00 0x7F a (omega arith),
+        within-above 0xC0 0xDF a (omega arith),
+        within-above 0xE0 0xEF a (omega arith),
+        within-above 0xF0 0xF7 a (omega arith),
+      )
 
 -- ---- decoding, one character at a time: the count never runs out
 data Shorter : First → ℕ → Type 0 where
@@ -120,7 +138,11 @@ count (suc n) (suc m) (b ∷ bs) h k = onward-same (firstChar (b ∷ bs)) _ _ _ 
 
 pub decode-equation : DecodeEquation
 unfolding decode decodeTo
-decode-equation = (refl, λ b bs. onward-same (firstChar (b ∷ bs)) _ _ _ (first-shorter b bs) (λ cs l. count (length bs) (length cs) cs (omega arith) (omega arith)))
+decode-equation = (
+  refl,
+  λ b bs. onward-same (firstChar (b ∷ bs)) _ _ _ (first-shorter b bs)
+      (λ cs l. count (length bs) (length cs) cs (omega arith) (omega arith)),
+)
 
 -- ---- THE TABLE FROM LEFT TO RIGHT AND BACK: every list of codes is read from its bytes
 module _ (c : ℕ) where
@@ -178,7 +200,8 @@ module _ (c : ℕ) (bs : List ℕ) where
           (first-three _ _ (omega arith) (omega arith) ∙ ap (row 0x800 0xFFFF) (two-tails _ (omega arith)) ∙ row-in _ _ (omega arith) (omega arith) e)
       go (yes h) (yes i) (yes j) =
           rw (encode-four c j)
-          (first-four _ _ (omega arith) (omega (arith, code-most c e)) ∙ ap (row 0x10000 0x10FFFF) (three-tails _ (omega arith)) ∙ row-in _ _ (omega arith) (code-most c e) e)
+          (first-four _ _ (omega arith) (omega (arith, code-most c e)) ∙ ap (row 0x10000 0x10FFFF) (three-tails _ (omega arith))
+          ∙ row-in _ _ (omega arith) (code-most c e) e)
 
 decode-first : (xs bs : List ℕ) (c : ℕ) → firstChar xs ≡ char c bs → decode xs ≡ also c (decode bs)
 unfolding firstChar onward
@@ -193,8 +216,8 @@ decode-encode (c ∷ cs) e =
     decode-first (encode c ++ encodeAll cs) (encodeAll cs) c (first-encode c (encodeAll cs) p) ∙ rw (decode-encode cs q)
 
 -- ---- AND FROM RIGHT TO LEFT: bytes that decode are the bytes of what they decode to, and nothing but codes is decoded
-abbrev Written : List ℕ → ℕ → List ℕ → Type 0
-Written bs c rest = (encode c ++ rest ≡ bs) × (isCode c ≡ true)
+abbrev Encoded : List ℕ → ℕ → List ℕ → Type 0
+Encoded bs c rest = (encode c ++ rest ≡ bs) × (isCode c ≡ true)
 
 -- what a row, and a tail, that passed tell
 row-passed : (lo hi : ℕ) (f : First) (c : ℕ) (rest : List ℕ) → row lo hi f ≡ char c rest → (f ≡ char c rest) × (lo ≤ c) × (c ≤ hi) × (isCode c ≡ true)
@@ -202,7 +225,8 @@ unfolding row pick
 row-passed lo hi ill c rest e = let z : _≡_ {A = ℕ} 0 1 = cc in absurd (omega arith)
 row-passed lo hi (char k bs) c rest e = by (within lo hi k) (isCode k) refl refl e
   where
-    by : (t u : Bool) → within lo hi k ≡ t → isCode k ≡ u → pick (t && u) (char k bs) ill ≡ char c rest → (char k bs ≡ char c rest) × (lo ≤ c) × (c ≤ hi) × (isCode c ≡ true)
+    by : (t u : Bool) → within lo hi k ≡ t → isCode k ≡ u → pick (t && u) (char k bs) ill ≡ char c rest
+        → (char k bs ≡ char c rest) × (lo ≤ c) × (c ≤ hi) × (isCode c ≡ true)
     by true true p q f =
         let d : k ≡ c = cc in
         let (u, v) = within-true lo hi k p in
@@ -247,26 +271,27 @@ module _ (c : ℕ) (rest : List ℕ) where
       let b : t .byte ≡ 0x80 + c / 64 % 64 = omega (arith, t .low, t .high) in
       (t .made ∙ rw (b, p), omega (arith, t .low, t .high))
 
-  tails-three : (h : ℕ) (bs : List ℕ) → tails 3 h bs ≡ char c rest → (bs ≡ (0x80 + c / 4096 % 64) ∷ (0x80 + c / 64 % 64) ∷ (0x80 + c % 64) ∷ rest) × (h ≡ c / 262144)
+  tails-three : (h : ℕ) (bs : List ℕ) → tails 3 h bs ≡ char c rest
+      → (bs ≡ (0x80 + c / 4096 % 64) ∷ (0x80 + c / 64 % 64) ∷ (0x80 + c % 64) ∷ rest) × (h ≡ c / 262144)
   tails-three h bs e =
       let t = tail-passed 2 h bs c rest e in
       let (p, q) = tails-two _ _ (t .goes) in
       let b : t .byte ≡ 0x80 + c / 4096 % 64 = omega (arith, t .low, t .high) in
       (t .made ∙ rw (b, p), omega (arith, t .low, t .high))
 
-pub encode-first : (a : ℕ) (bs : List ℕ) (c : ℕ) (rest : List ℕ) → firstChar (a ∷ bs) ≡ char c rest → Written (a ∷ bs) c rest
+pub encode-first : (a : ℕ) (bs : List ℕ) (c : ℕ) (rest : List ℕ) → firstChar (a ∷ bs) ≡ char c rest → Encoded (a ∷ bs) c rest
 encode-first a bs c rest e = go (decLt a 0x80) (decLt a 0xC0) (decLt a 0xE0) (decLt a 0xF0) (decLt a 0xF8)
   where
-    not-ill : firstChar (a ∷ bs) ≡ ill → Written (a ∷ bs) c rest
+    not-ill : firstChar (a ∷ bs) ≡ ill → Encoded (a ∷ bs) c rest
     not-ill f = let z : _≡_ {A = ℕ} 0 1 = cc in absurd (omega arith)
 
-    one : a ≤ 0x7F → char a bs ≡ char c rest → Written (a ∷ bs) c rest
+    one : a ≤ 0x7F → char a bs ≡ char c rest → Encoded (a ∷ bs) c rest
     one h f =
         let p : c ≡ a = cc in
         let q : rest ≡ bs = cc in
         rw (p, q) (rw (encode-one a h), code-below a (omega arith))
 
-    go : Dec (a < 0x80) → Dec (a < 0xC0) → Dec (a < 0xE0) → Dec (a < 0xF0) → Dec (a < 0xF8) → Written (a ∷ bs) c rest
+    go : Dec (a < 0x80) → Dec (a < 0xC0) → Dec (a < 0xE0) → Dec (a < 0xF0) → Dec (a < 0xF8) → Encoded (a ∷ bs) c rest
     go (yes h) i j k l = one (omega arith) (sym (first-one a bs (omega arith)) ∙ e)
     go (no h) (yes i) j k l = not-ill (first-stray a bs (omega arith) (omega arith))
     go (no h) (no i) (yes j) k l =
@@ -286,10 +311,11 @@ encode-first a bs c rest e = go (decLt a 0x80) (decLt a 0xC0) (decLt a 0xE0) (de
         (rw (encode-four c (omega arith), b, p), w)
     go (no h) (no i) (no j) (no k) (no l) = not-ill (first-beyond a bs (omega arith))
 
-abbrev Made : List ℕ → List ℕ → Type 0
-Made bs cs = (encodeAll cs ≡ bs) × (all isCode cs ≡ true)
+abbrev BytesOf : List ℕ → List ℕ → Type 0
+BytesOf bs cs = (encodeAll cs ≡ bs) × (all isCode cs ≡ true)
 
-also-made : (r : Option (List ℕ)) (c : ℕ) (cs bs rest : List ℕ) → Written bs c rest → ((ds : List ℕ) → r ≡ some ds → Made rest ds) → also c r ≡ some cs → Made bs cs
+also-made : (r : Option (List ℕ)) (c : ℕ) (cs bs rest : List ℕ) → Encoded bs c rest → ((ds : List ℕ) → r ≡ some ds → BytesOf rest ds)
+    → also c r ≡ some cs → BytesOf bs cs
 unfolding also encodeAll all
 also-made none c cs bs rest w m e = let z : _≡_ {A = ℕ} 0 1 = cc in absurd (omega arith)
 also-made (some ds) c cs bs rest w m e =
@@ -297,17 +323,18 @@ also-made (some ds) c cs bs rest w m e =
     let (p, q) = m ds refl in
     rw f (rw p (w .0), and-both _ _ (w .1) q)
 
-onward-made : (f : First) (k : List ℕ → Option (List ℕ)) (b : ℕ) (bs cs : List ℕ) → firstChar (b ∷ bs) ≡ f → ((rest ds : List ℕ) → k rest ≡ some ds → Made rest ds)
-    → onward f k ≡ some cs → Made (b ∷ bs) cs
+onward-made : (f : First) (k : List ℕ → Option (List ℕ)) (b : ℕ) (bs cs : List ℕ) → firstChar (b ∷ bs) ≡ f
+    → ((rest ds : List ℕ) → k rest ≡ some ds → BytesOf rest ds)
+    → onward f k ≡ some cs → BytesOf (b ∷ bs) cs
 unfolding onward
 onward-made ill k b bs cs p m e = let z : _≡_ {A = ℕ} 0 1 = cc in absurd (omega arith)
 onward-made (char c rest) k b bs cs p m e = also-made (k rest) c cs (b ∷ bs) rest (encode-first b bs c rest p) (m rest) e
 
-nil-made : (cs : List ℕ) → some [] ≡ some cs → Made [] cs
+nil-made : (cs : List ℕ) → some [] ≡ some cs → BytesOf [] cs
 unfolding encodeAll all
 nil-made cs e = let f : cs ≡ [] = cc in rw f (refl, refl)
 
-decodeTo-made : (n : ℕ) (bs cs : List ℕ) → decodeTo n bs ≡ some cs → Made bs cs
+decodeTo-made : (n : ℕ) (bs cs : List ℕ) → decodeTo n bs ≡ some cs → BytesOf bs cs
 unfolding decodeTo
 decodeTo-made zero [] cs e = nil-made cs e
 decodeTo-made (suc n) [] cs e = nil-made cs e
