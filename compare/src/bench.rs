@@ -1,5 +1,5 @@
-//! Open and find on 16 MiB volumes whose index is full of live entries, and open on one that is full of name bytes, which is judged
-//! in the time of its names: the two programs, one after the other, in one run.
+//! Open and find on a 16 MiB volume whose index is full of live entries, and open on one with the longest name there can be: the two
+//! programs, one after the other, in one run.
 
 use crate::library::Library;
 use second::store::{Own, Store};
@@ -9,12 +9,13 @@ use std::time::{Duration, Instant};
 const BYTES: usize = 16 << 20;
 const ENTRIES: usize = 4094;
 const ROUNDS: u32 = 5;
-/// An index of the largest size, in runs of the longest name: 54 bytes in the first slot of a directory and 64 in each of 255 more.
-const INDEX: usize = 262_144;
+/// A directory of the longest name: it starts at 10 in the first slot and fills 255 more, its zero apart.
 const RUN: usize = 256 * 64;
 const NAME_AT: usize = 10;
-const RUNS: usize = 1;
+const LONGEST: usize = RUN - NAME_AT - 1;
 const NAME_ROUNDS: u32 = 200;
+const NAMES: [(&str, &str); 4] =
+    [("ASCII", "session-01234."), ("ASCII, mixed", "aZ0-bY9_c+X8 "), ("French", "prêté à l'été "), ("Japanese", "日本語")];
 
 pub fn run() -> Result<String, String> {
     let image = full_volume()?;
@@ -25,8 +26,8 @@ pub fn run() -> Result<String, String> {
         let find = best(ROUNDS, || black_box(store.find(black_box(&image), &path)).refusal == 0)?;
         text += &format!("\n{program}: open {:.3} ms, find {:.3} ms", millis(open), millis(find));
     }
-    text += &format!("\n{BYTES} bytes, {RUNS} live entries of {} name bytes, best of {NAME_ROUNDS}", RUN - NAME_AT - 1);
-    for (names, pattern) in [("ASCII", "session-01234."), ("ASCII, mixed", "aZ0-bY9_c+X8 "), ("French", "prêté à l'été "), ("Japanese", "日本語")] {
+    text += &format!("\n{BYTES} bytes, one name of {LONGEST} bytes or a few less, best of {NAME_ROUNDS}");
+    for (names, pattern) in NAMES {
         let image = named_volume(pattern)?;
         for (program, store) in [("library", &Library as &dyn Store), ("second", &Own)] {
             text += &format!("\n{program}, {names}: {}", judged(store, &image));
@@ -39,29 +40,27 @@ pub fn run() -> Result<String, String> {
 fn judged(store: &dyn Store, image: &[u8]) -> String {
     let refusal = store.open(image, &mut [0; 64]).refusal;
     match best(NAME_ROUNDS, || black_box(store.open(black_box(image), &mut [0; 64])).refusal == 0) {
-        Ok(open) => format!("open {:.3} ms, {:.2} ns a byte", millis(open), open.as_secs_f64() * 1e9 / (RUNS * (RUN - NAME_AT)) as f64),
+        Ok(open) => format!("open {:.3} ms, {:.2} ns a byte", millis(open), open.as_secs_f64() * 1e9 / LONGEST as f64),
         Err(_) => format!("refused {refusal}"),
     }
 }
 
-/// Directories of the longest names, written by hand: a create takes no more than 285 bytes.
+/// A directory of so long a name is written by hand: a create takes no more than 285 bytes.
 fn named_volume(pattern: &str) -> Result<Vec<u8>, String> {
     let mut image = vec![0; BYTES];
     if second::format(&mut image, 512, 1, b"BENCH", 0).refusal != 0 {
         return Err("format was refused".to_string());
     }
-    let index = BYTES - INDEX;
-    image[0x1A4..0x1AC].copy_from_slice(&(INDEX as u64).to_le_bytes());
-    image[BYTES - 128] = 0x10;
-    image[index] = 0x02;
-    for place in 0..RUNS {
-        let run = index + 64 + place * RUN;
-        let name: String = format!("{place:02}") + &pattern.repeat(RUN / pattern.len());
-        let end = (RUN - NAME_AT - 4..).find(|end| name.is_char_boundary(*end)).unwrap_or(2);
-        image[run] = 0x11;
-        image[run + 1] = 255;
-        image[run + NAME_AT..run + NAME_AT + end].copy_from_slice(&name.as_bytes()[..end]);
-    }
+    let index = 64 + RUN + 64;
+    let run = BYTES - index + 64;
+    let name = pattern.repeat(LONGEST / pattern.len() + 1);
+    let end = (0..=LONGEST).rfind(|end| name.is_char_boundary(*end)).unwrap_or(0);
+    image[0x1A4..0x1AC].copy_from_slice(&(index as u64).to_le_bytes());
+    image[BYTES - 128] = 0;
+    image[run - 64] = 0x02;
+    image[run] = 0x11;
+    image[run + 1] = 255;
+    image[run + NAME_AT..run + NAME_AT + end].copy_from_slice(&name.as_bytes()[..end]);
     Ok(image)
 }
 

@@ -1,17 +1,17 @@
 -- The two ends of the index where a program finds them, and as it writes them.
 use Prim.Native.Nat.{ℕ, _+_, _-_, _*_, _≤_}
 use mathlib.Core.Path.{_≡_, refl, sym, ap, _∙_}
-use mathlib.Core.Bool.{Bool, false}
+use mathlib.Core.Bool.{Bool, false, _&&_}
 use mathlib.Core.List.{List, _∷_, _++_, append-assoc}
 use native.Mathlib.Omega.{arith}
 use lib.ListN.{length, getD, take, drop, replicate, length-append}
-use lib.Dec.{eqb, ltb}
+use lib.Dec.{eqb}
 use lib.IntN.{ℤ}
-use borrow.Author.Tests.{eq-eqb, ne-eqb, le-ltb, lt-ltb}
+use borrow.Author.Tests.{eq-eqb, ne-eqb}
 use Rattle.rules.specs.Lists.{part, padded}
-use Rattle.rules.specs.Lists.Laws.{and-left, and-right, pick-true, pick-false, length-padded}
+use Rattle.rules.specs.Lists.Laws.{and-left, pick-true, pick-false, length-padded}
 use Rattle.rules.specs.Fields.{byteAt, le, hasZero, upToZero, splice, leBytes, stampBytes, signedOf, stampIn}
-use Rattle.rules.specs.Fields.Laws.{upToZero-take, hasZero-ltb}
+use Rattle.rules.specs.Fields.Laws.{upToZero-take}
 use Rattle.rules.specs.Names.{volumeTextGood}
 use Rattle.rules.specs.SuperBlock.{Geometry}
 use Rattle.rules.specs.Index.{slotAt, identifierAt, volumeField, volumeName, volumeStamp, identifierGood, markerGood, typeIdentifier, markerBytes, identifierBytes}
@@ -50,18 +50,9 @@ module _ (s : List ℕ) (at : ℕ) (place : at ≡ identifierAt s) where
     unfolding identifierGood
     identifier-type d = sym (and-left _ _ (and-left _ _ (ap (λ (t : ℕ). eqb t typeIdentifier) type-is ∙ ne-eqb k typeIdentifier d)))
 
-    module _ (f : List ℕ) (field : f ≡ volumeField s) (n : ℕ) (is : n ≡ length (upToZero f)) where
-      zero-is : hasZero (volumeField s) ≡ ltb n (length f)
-      zero-is = ap hasZero (sym field) ∙ hasZero-ltb f ∙ ap (λ (m : ℕ). ltb m (length f)) (sym is)
-
-      pub identifier-unended : n ≡ length f → false ≡ identifierGood s
-      unfolding identifierGood
-      identifier-unended h = sym (and-left _ _ (and-right (eqb (byteAt s (identifierAt s)) typeIdentifier) _ (zero-is ∙ le-ltb n (length f) (omega arith))))
-
-      pub identifier-named : k ≡ typeIdentifier → (n ≡ length f → ⊥) → n ≤ length f → (r : Bool) → r ≡ volumeTextGood (take n f) → r ≡ identifierGood s
-      unfolding identifierGood
-      identifier-named t d l r e =
-          rw (type-is, eq-eqb k typeIdentifier t, zero-is, lt-ltb n (length f) (omega arith)) (e ∙ ap volumeTextGood (name-part s f field n is))
+    pub identifier-named : k ≡ typeIdentifier → (f : List ℕ) → f ≡ volumeField s → (r : Bool) → r ≡ (hasZero f && volumeTextGood (upToZero f)) → r ≡ identifierGood s
+    unfolding identifierGood volumeName
+    identifier-named t f field r e = rw (type-is, eq-eqb k typeIdentifier t, ← field) e
 
 -- ---- the start marker
 pub marker-at : (s : List ℕ) (g : Geometry) (at k : ℕ) → at ≡ length s - g .indexBytes → k ≡ getD s at 0 → eqb k 2 ≡ markerGood s g

@@ -68,12 +68,7 @@ fn identifier_good(img: &[u8]) -> bool
     if slots::kind_at(img, identifier(img)) != slots::IDENTIFIER {
         return false;
     }
-    let field = volume_field(img);
-    let n = fields::zero_at(field);
-    if n == field.len() {
-        return false;
-    }
-    names::volume_text_good(&field[..n])
+    names::volume_field_good(volume_field(img))
 }
 
 // ---- the start marker

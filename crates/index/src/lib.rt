@@ -48,7 +48,7 @@ fn run_step(img: &[u8], at: Offset, left: u64) -> u64
     if left < n {
         return 0;
     }
-    if !slots::name_good(slots::name_field(img, at)) {
+    if !names::path_field_good(slots::name_field(img, at)) {
         return 0;
     }
     n

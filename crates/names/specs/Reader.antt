@@ -4,9 +4,7 @@ use mathlib.Core.Path.{_≡_, refl, sym, ap, ap₂, _∙_}
 use mathlib.Core.Bool.{Bool, true, false, _&&_, not}
 use mathlib.Core.List.{List, [], _∷_}
 use native.Mathlib.Omega.{arith}
-use native.Mathlib.Numerals.{add-one}
-use lib.ListN.{length, getD, drop, drop-of-length-le}
-use lib.Seq.{drop-cons}
+use lib.ListN.{length, getD, drop}
 use lib.Dec.{eqb, ltb}
 use borrow.Author.Tests.{ne-eqb, not-true}
 use Rattle.rules.specs.Lists.{pick, any}
@@ -14,49 +12,58 @@ use Rattle.rules.specs.Lists.Laws.{and-true, and-right}
 use Rattle.rules.specs.Fields.{upToZero, hasZero}
 use Rattle.rules.specs.Fields.Laws.{hasZero-ltb, zero-next, zero-more}
 use Rattle.rules.specs.Names.{slash, dot, textGood, pathGood, volumeTextGood}
-use Rattle.rules.specs.Names.Laws.{path-whole, path-nowhere}
-use Rattle.rules.specs.Index.{nameGood}
+use Rattle.rules.specs.Names.Laws.{whole-text, no-whole-text}
 use Rattle.names.specs.Automaton.{partStep, runParts, run-parts, run-bad, part-plain, part-most}
 use Rattle.names.specs.Masks.{turnsNothing}
 use Rattle.names.specs.Texts.{goodFrom, asciiGood, ascii-zero, from-ascii, from-nil}
 use Rattle.names.specs.declared.Reader.{Reader}
-use Rattle.names.specs.declared.Path.{Path}
-use Rattle.names.specs.declared.Path.the-variants.{Bytes, Bad}
+use Rattle.names.specs.declared.Stored.{Stored}
+use Rattle.names.specs.declared.Stored.the-variants.{Bytes, Bad}
 
 -- what a reader promises: the bytes behind it make a good name of those before it
 abbrev pub goodAt : Reader → List ℕ → Bool
 goodAt r bs = goodFrom (r .due) (r .low) (r .high) bs
 
--- a path up to the first zero: so many bytes, or none
-abbrev pub PathIn : List ℕ → Path → Type 0
-PathIn s (Bytes n) = (pathGood (upToZero s) ≡ true) × (n ≡ length (upToZero s))
-PathIn s Bad = pathGood (upToZero s) ≡ false
+-- up to the first zero the rule P holds, of so many bytes, or it does not
+abbrev pub In : (List ℕ → Bool) → List ℕ → Stored → Type 0
+In P s (Bytes n) = (P (upToZero s) ≡ true) × (n ≡ length (upToZero s))
+In P s Bad = P (upToZero s) ≡ false
 
--- by the case that was found, of all of s, and of a field that a zero must end
-module _ (s : List ℕ) (p : Path) (h : PathIn s p) where
-  in-path : (n : ℕ) → p ≡ Bytes n → (pathGood (upToZero s) ≡ true) × (n ≡ length (upToZero s))
-  in-path n e = rw e at h
+module _ (P : List ℕ → Bool) (s : List ℕ) (r : Stored) (h : In P s r) where
+  in-bytes : (n : ℕ) → r ≡ Bytes n → (P (upToZero s) ≡ true) × (n ≡ length (upToZero s))
+  in-bytes n e = rw e at h
 
-  in-bad : p ≡ Bad → pathGood (upToZero s) ≡ false
+  in-bad : r ≡ Bad → P (upToZero s) ≡ false
   in-bad e = rw e at h
 
-  pub whole-path : (n : ℕ) → p ≡ Bytes n → eqb n (length s) ≡ pathGood s
-  whole-path n e = let (f, g) = in-path n e in rw g (path-whole s f)
-
-  pub no-path : p ≡ Bad → false ≡ pathGood s
-  no-path e = path-nowhere s (in-bad e)
-
-  pub field-path : (n : ℕ) → p ≡ Bytes n → ltb n (length s) ≡ nameGood s
-  unfolding nameGood
-  field-path n e = let (f, g) = in-path n e in rw (g, f, hasZero-ltb s) (by (ltb (length (upToZero s)) (length s)))
+  -- of a field, which a zero must end
+  pub field-bytes : (n : ℕ) → r ≡ Bytes n → ltb n (length s) ≡ (hasZero s && P (upToZero s))
+  field-bytes n e = let (f, g) = in-bytes n e in rw (g, f, hasZero-ltb s) (by (ltb (length (upToZero s)) (length s)))
     where
       by : (t : Bool) → t ≡ (t && true)
       by true = refl
       by false = refl
 
-  pub no-field : p ≡ Bad → false ≡ nameGood s
-  unfolding nameGood
-  no-field e = sym (and-right (hasZero s) _ (in-bad e))
+  pub field-bad : r ≡ Bad → false ≡ (hasZero s && P (upToZero s))
+  field-bad e = sym (and-right (hasZero s) _ (in-bad e))
+
+  -- of all of s
+  module _ (texts : (s : List ℕ) → P s ≡ true → textGood s ≡ true) where
+    pub whole-bytes : (n : ℕ) → r ≡ Bytes n → eqb n (length s) ≡ P s
+    whole-bytes n e = let (f, g) = in-bytes n e in rw g (whole-text P texts s f)
+
+    pub whole-bad : r ≡ Bad → false ≡ P s
+    whole-bad e = no-whole-text P texts s (in-bad e)
+
+-- where a reader ends: its last test tells whether the rule holds
+ended-in : (P : List ℕ → Bool) (s : List ℕ) (i : ℕ) (t : Bool) → upToZero (drop i s) ≡ [] → i + length (upToZero (drop i s)) ≡ length (upToZero s)
+    → t ≡ P (upToZero s) → (e : Stored) → e ≡ pick t (Bytes i) Bad → In P s e
+unfolding pick
+ended-in P s i t z h f e g = rw g (by t f)
+  where
+    by : (t : Bool) → t ≡ P (upToZero s) → In P s (pick t (Bytes i) Bad)
+    by true f = let k : length (upToZero (drop i s)) ≡ 0 = ap length z in (sym f, omega (arith, h, k))
+    by false f = sym f
 
 -- ---- a path, of which `rest` is left
 abbrev Reached : List ℕ → List ℕ → Reader → ℕ → Type 0
@@ -109,41 +116,42 @@ module _ (s : List ℕ) (r : Reader) (part i : ℕ) (h : PathAt s r part i) wher
     pub bad-part : q ≡ 4 → pathGood (upToZero s) ≡ false
     bad-part f = on-bad (upToZero s) (getD s i 0) (upToZero (drop (i + 1) s)) r part (rw (← zero-next s i l z) (h .2)) q e f
 
-  module _ (end : upToZero (drop i s) ≡ []) where
-    pub path-ended : (p : Path) → p ≡ pick (eqb (r .due) 0 && eqb part 3) (Bytes i) Bad → PathIn s p
-    unfolding pick
-    path-ended p e = rw e (by (eqb (r .due) 0 && eqb part 3) (on-end (upToZero s) r part (rw (← end) (h .2))))
-      where
-        by : (t : Bool) → t ≡ pathGood (upToZero s) → PathIn s (pick t (Bytes i) Bad)
-        by true f = let z : length (upToZero (drop i s)) ≡ 0 = ap length end in (sym f, omega (arith, h .1, z))
-        by false f = sym f
+  pub path-ended : upToZero (drop i s) ≡ [] → (e : Stored) → e ≡ pick (eqb (r .due) 0 && eqb part 3) (Bytes i) Bad → In pathGood s e
+  path-ended z e f = ended-in pathGood s i _ z (h .1) (on-end (upToZero s) r part (rw (← z) (h .2))) e f
 
 -- ---- the loop over a volume name, at byte i of s
 abbrev pub NameAt : List ℕ → Reader → ℕ → Type 0
-NameAt s r i = (i ≤ length s) × (goodAt r (drop i s) ≡ textGood s) × (any (eqb slash) (drop i s) ≡ any (eqb slash) s)
+NameAt s r i =
+    (i ≤ length s) × (i + length (upToZero (drop i s)) ≡ length (upToZero s))
+    × (goodAt r (upToZero (drop i s)) ≡ textGood (upToZero s)) × (any (eqb slash) (upToZero (drop i s)) ≡ any (eqb slash) (upToZero s))
 
 module _ (s : List ℕ) (r : Reader) (i : ℕ) (h : NameAt s r i) where
-  module _ (l : i < length s) where
-    next : drop i s ≡ getD s i 0 ∷ drop (i + 1) s
-    next = drop-cons s i 0 l ∙ rw add-one
-
-    pub slash-found : getD s i 0 ≡ slash → false ≡ volumeTextGood s
+  module _ (l : i < length s) (z : getD s i 0 ≡ 0 → ⊥) where
+    pub slash-found : getD s i 0 ≡ slash → volumeTextGood (upToZero s) ≡ false
     unfolding volumeTextGood any
-    slash-found e = let g : any (eqb slash) (drop i s) ≡ true = rw (next, e) in sym (and-right (textGood s) _ (ap not (sym (h .2) ∙ g)))
+    slash-found e =
+        let g : any (eqb slash) (upToZero (drop i s)) ≡ true = rw (zero-next s i l z, e) in
+        and-right (textGood (upToZero s)) _ (ap not (sym (h .3) ∙ g))
 
     pub name-turn : (getD s i 0 ≡ slash → ⊥) → (n : Reader) → ((bs : List ℕ) → goodAt n bs ≡ goodAt r (getD s i 0 ∷ bs)) → NameAt s n (i + 1)
     unfolding any
     name-turn d n f =
-        let z : eqb slash (getD s i 0) ≡ false = ne-eqb _ _ (λ e. d (sym e)) in
-        (omega arith, f (drop (i + 1) s) ∙ rw (← next) (h .1), sym (rw (next, z)) ∙ h .2)
+        let e : eqb slash (getD s i 0) ≡ false = ne-eqb _ _ (λ e. d (sym e)) in
+        (omega arith, zero-more s i l z ∙ h .1, f (upToZero (drop (i + 1) s)) ∙ rw (← zero-next s i l z) (h .2), sym (rw (zero-next s i l z, e)) ∙ h .3)
 
-  pub name-end : length s ≤ i → eqb (r .due) 0 ≡ volumeTextGood s
+  name-end : upToZero (drop i s) ≡ [] → eqb (r .due) 0 ≡ volumeTextGood (upToZero s)
   unfolding volumeTextGood any
-  name-end l =
-      let e : drop i s ≡ [] = drop-of-length-le s {i = i} l in
-      let f : any (eqb slash) s ≡ false = sym (h .2) ∙ ap (any (eqb slash)) e in
-      from-nil _ _ _ ∙ sym (ap (goodAt r) e) ∙ h .1 ∙ rw f (by (textGood s))
+  name-end z =
+      let f : any (eqb slash) (upToZero s) ≡ false = sym (h .3) ∙ ap (any (eqb slash)) z in
+      from-nil _ _ _ ∙ sym (ap (goodAt r) z) ∙ h .2 ∙ rw f (by (textGood (upToZero s)))
     where
       by : (t : Bool) → t ≡ (t && not false)
       by true = refl
       by false = refl
+
+  pub name-ended : upToZero (drop i s) ≡ [] → (e : Stored) → e ≡ pick (eqb (r .due) 0 && eqb 3 3) (Bytes i) Bad → In volumeTextGood s e
+  name-ended z e f = ended-in volumeTextGood s i _ z (h .1) (and-last (eqb (r .due) 0) ∙ name-end z) e f
+    where
+      and-last : (t : Bool) → (t && true) ≡ t
+      and-last true = refl
+      and-last false = refl

@@ -6,11 +6,13 @@ ghost use mathlib.Core.List.{List, _∷_};
 ghost use Prim.Native.Nat.{ℕ, _≤_};
 ghost use lib.Dec.{eqb, ltb};
 ghost use Rattle.rules.specs.Lists.{pick};
+ghost use Rattle.rules.specs.Fields.{upToZero, hasZero};
 ghost use Rattle.rules.specs.Names.{textGood, pathGood, newPathGood, volumeTextGood, volumeNameGood};
+ghost use Rattle.rules.specs.Index.{nameGood};
 ghost use Rattle.names.specs.Automaton.{partStep};
 ghost use Rattle.names.specs.Masks.{bitOf, turnsNothing};
 ghost use Rattle.names.specs.Texts.{asciiGood, goodFrom};
-ghost use Rattle.names.specs.Reader.{goodAt, PathIn};
+ghost use Rattle.names.specs.Reader.{goodAt, In};
 
 // ---- characters of one byte
 
@@ -176,26 +178,26 @@ fn part_step(state: u8, b: u8) -> u8
     if state < 2 { state + 1 } else { 3 }
 }
 
-// What stands before the first zero byte, or is all there is: a path of so many bytes, or none.
-pub enum Path {
+// What stands before the first zero byte, or is all there is: a good name of so many bytes, or none.
+pub enum Stored {
     Bytes(usize),
     Bad,
 }
 
-fn ended(reader: Reader, part: u8, n: usize) -> Path
-    ensures { λ r. ⌜ r ≡ pick (eqb (reader .due) 0 && eqb part 3) (Path.Bytes n) Path.Bad ⌝ }
+fn ended(reader: Reader, part: u8, n: usize) -> Stored
+    ensures { λ r. ⌜ r ≡ pick (eqb (reader .due) 0 && eqb part 3) (Stored.Bytes n) Stored.Bad ⌝ }
 {
     if reader.due == 0 {
         if part == 3 {
-            return Path::Bytes(n);
+            return Stored::Bytes(n);
         }
     }
-    Path::Bad
+    Stored::Bad
 }
 
 // The name rule, the rule on parts and the search for the zero, in one pass. Most bytes are plain characters, which begin and end nothing.
-pub fn path_in(s: &[u8]) -> Path
-    ensures { λ r. ⌜ PathIn (now (s .entry)) r ⌝ }
+fn path_in(s: &[u8]) -> Stored
+    ensures { λ r. ⌜ In pathGood (now (s .entry)) r ⌝ }
 {
     let mut reader = BETWEEN;
     let mut part: u8 = 0;
@@ -214,7 +216,7 @@ pub fn path_in(s: &[u8]) -> Path
         }
         part = part_step(part, b);
         if part == 4 {
-            return Path::Bad;
+            return Stored::Bad;
         }
         reader = step(reader, b);
         i += 1;
@@ -222,12 +224,22 @@ pub fn path_in(s: &[u8]) -> Path
     ended(reader, part, i)
 }
 
+// The field of a stored path, with the slots that continue it.
+pub fn path_field_good(field: &[u8]) -> bool
+    ensures { λ r. ⌜ r ≡ nameGood (now (field .entry)) ⌝ }
+{
+    match path_in(field) {
+        Stored::Bytes(n) => n < field.len(),
+        Stored::Bad => false,
+    }
+}
+
 pub fn path_good(s: &[u8]) -> bool
     ensures { λ r. ⌜ r ≡ pathGood (now (s .entry)) ⌝ }
 {
     match path_in(s) {
-        Path::Bytes(n) => n == s.len(),
-        Path::Bad => false,
+        Stored::Bytes(n) => n == s.len(),
+        Stored::Bad => false,
     }
 }
 
@@ -240,22 +252,46 @@ pub fn new_path_good(s: &[u8]) -> bool
 
 // ---- volume names
 
-pub fn volume_text_good(s: &[u8]) -> bool
-    ensures { λ r. ⌜ r ≡ volumeTextGood (now (s .entry)) ⌝ }
+// The name rule, the search for a slash and that for the zero, in one pass.
+fn volume_name_in(s: &[u8]) -> Stored
+    ensures { λ r. ⌜ In volumeTextGood (now (s .entry)) r ⌝ }
 {
     let mut reader = BETWEEN;
     let mut i: usize = 0;
     while i < s.len() {
         let b = s[i];
+        if b == 0 {
+            return ended(reader, 3, i);
+        }
         if b == b'/' {
-            return false;
+            return Stored::Bad;
         }
         reader = step(reader, b);
         i += 1;
     }
-    reader.due == 0
+    ended(reader, 3, i)
 }
 
+// The field of a stored volume name.
+pub fn volume_field_good(field: &[u8]) -> bool
+    ensures { λ r. ⌜ r ≡ (hasZero (now (field .entry)) && volumeTextGood (upToZero (now (field .entry)))) ⌝ }
+{
+    match volume_name_in(field) {
+        Stored::Bytes(n) => n < field.len(),
+        Stored::Bad => false,
+    }
+}
+
+fn volume_text_good(s: &[u8]) -> bool
+    ensures { λ r. ⌜ r ≡ volumeTextGood (now (s .entry)) ⌝ }
+{
+    match volume_name_in(s) {
+        Stored::Bytes(n) => n == s.len(),
+        Stored::Bad => false,
+    }
+}
+
+// The name of a volume to format.
 pub fn volume_name_good(s: &[u8]) -> bool
     ensures { λ r. ⌜ r ≡ volumeNameGood (now (s .entry)) ⌝ }
 {

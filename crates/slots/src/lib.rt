@@ -1,6 +1,5 @@
 // Slots of the index area: the one owner of their layout in code. What a slot's first byte says, and an entry's fields and name.
 
-use names::Path;
 use units::Block;
 use units::Offset;
 use units::Slot;
@@ -8,7 +7,7 @@ ghost use mathlib.Core.Path.{_≡_};
 ghost use mathlib.Core.Bool.{true};
 ghost use Prim.Native.Nat.{_+_, _*_, _/_, _≤_, _<_};
 ghost use lib.ListN.{length, getD, drop};
-ghost use Rattle.rules.specs.Index.{fileType, runType, liveType, deletedType, strayType, nameAt, continuing, runSlots, nameField, nameGood, fileField, entryAt};
+ghost use Rattle.rules.specs.Index.{fileType, runType, liveType, deletedType, strayType, nameAt, continuing, runSlots, nameField, fileField, entryAt};
 ghost use Rattle.rules.specs.Index.Items.{entryType, headOf};
 ghost use Rattle.rules.specs.Writing.{deletedKind};
 ghost use Rattle.slots.specs.View.{headView, HeadIn};
@@ -190,16 +189,6 @@ pub fn name_field(img: &[u8], at: Offset) -> &[u8]
     let start = name.index();
     let end = rest.index();
     &img[start..end]
-}
-
-// A name's field and continuing slots: there is a zero, and what stands before it is a path.
-pub fn name_good(field: &[u8]) -> bool
-    ensures { λ r. ⌜ r ≡ nameGood (now (field .entry)) ⌝ }
-{
-    match names::path_in(field) {
-        Path::Bytes(n) => n < field.len(),
-        Path::Bad => false,
-    }
 }
 
 // ---- an entry

@@ -126,6 +126,22 @@ text-no-zero : (s : List ℕ) → textGood s ≡ true → upToZero s ≡ s
 unfolding upToZero
 text-no-zero s e = ap upToZero (sym (append-nil s)) ∙ text-kept s [] e ∙ append-nil s
 
+-- a rule on texts, by what stands before the first zero of s, if there is one
+module _ (P : List ℕ → Bool) (texts : (s : List ℕ) → P s ≡ true → textGood s ≡ true) (s : List ℕ) where
+  pub whole-text : P (upToZero s) ≡ true → eqb (length (upToZero s)) (length s) ≡ P s
+  whole-text e = by (P s) refl
+    where
+      by : (t : Bool) → P s ≡ t → eqb (length (upToZero s)) (length s) ≡ t
+      by true g = eq-eqb (length (upToZero s)) (length s) (ap length (text-no-zero s (texts s g)))
+      by false g = ne-eqb (length (upToZero s)) (length s) (λ h. clash (sym e ∙ ap P (upToZero-take s ∙ ap (λ k. take k s) h ∙ take-length s) ∙ g))
+
+  pub no-whole-text : P (upToZero s) ≡ false → false ≡ P s
+  no-whole-text e = by (P s) refl
+    where
+      by : (t : Bool) → P s ≡ t → false ≡ t
+      by true g = sym e ∙ ap P (text-no-zero s (texts s g)) ∙ g
+      by false g = refl
+
 -- ---- parts
 -- there is always a first part
 pub parts-some : (s : List ℕ) → (q : List ℕ) × (qs : List (List ℕ)) × (parts s ≡ q ∷ qs)
@@ -148,25 +164,6 @@ module _ (s : List ℕ) (e : pathGood s ≡ true) where
 
   pub path-up-to-zero : (rest : List ℕ) → upToZero (s ++ 0 ∷ rest) ≡ s
   path-up-to-zero rest = text-up-to-zero s rest path-text
-
-  path-no-zero : upToZero s ≡ s
-  path-no-zero = text-no-zero s path-text
-
--- by what stands before the first zero of s, if there is one
-module _ (s : List ℕ) where
-  pub path-whole : pathGood (upToZero s) ≡ true → eqb (length (upToZero s)) (length s) ≡ pathGood s
-  path-whole e = by (pathGood s) refl
-    where
-      by : (t : Bool) → pathGood s ≡ t → eqb (length (upToZero s)) (length s) ≡ t
-      by true g = eq-eqb (length (upToZero s)) (length s) (ap length (path-no-zero s g))
-      by false g = ne-eqb (length (upToZero s)) (length s) (λ h. clash (sym e ∙ ap pathGood (upToZero-take s ∙ ap (λ k. take k s) h ∙ take-length s) ∙ g))
-
-  pub path-nowhere : pathGood (upToZero s) ≡ false → false ≡ pathGood s
-  path-nowhere e = by (pathGood s) refl
-    where
-      by : (t : Bool) → pathGood s ≡ t → false ≡ t
-      by true g = sym e ∙ ap pathGood (path-no-zero s g) ∙ g
-      by false g = refl
 
 -- ---- with a length
 pub new-path : (p : List ℕ) → newPathGood p ≡ true → (pathGood p ≡ true) × (length p ≤ 285)
