@@ -52,6 +52,7 @@ unfoldable pub row : ℕ → ℕ → First → First
 row lo hi ill = ill
 row lo hi (char c bs) = pick (within lo hi c && isCode c) (char c bs) ill
 
+-- the row that the first byte begins, and no other
 unfoldable pub firstChar : List ℕ → First
 firstChar [] = ill
 firstChar (a ∷ bs) =
@@ -66,6 +67,7 @@ unfoldable pub also : ℕ → Option (List ℕ) → Option (List ℕ)
 also c none = none
 also c (some cs) = some (c ∷ cs)
 
+-- the code of the first character, and those that k gives of the bytes behind it
 unfoldable pub onward : First → (List ℕ → Option (List ℕ)) → Option (List ℕ)
 onward ill k = none
 onward (char c bs) k = also c (k bs)
