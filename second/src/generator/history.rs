@@ -220,13 +220,7 @@ fn reformat(w: &mut Writer, block: u64) {
 
 fn odd(w: &mut Writer) {
     let path = odd_path(&mut w.rng);
-    match w.rng.below(5) {
-        0 => w.find(&path),
-        1 => w.read(&path),
-        2 => w.mkdir(&path),
-        3 => w.delete(&path),
-        _ => w.mkfile(&path, 3),
-    };
+    w.any_call(&path);
 }
 
 /// Looks at everything live, by each call that can, and asks for the check.

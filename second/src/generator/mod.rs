@@ -179,6 +179,17 @@ impl Writer {
         }
     }
 
+    /// One of the calls that take a path.
+    pub fn any_call(&mut self, path: &[u8]) {
+        match self.rng.below(5) {
+            0 => self.find(path),
+            1 => self.read(path),
+            2 => self.mkdir(path),
+            3 => self.delete(path),
+            _ => self.mkfile(path, 3),
+        };
+    }
+
     pub fn mkfile(&mut self, path: &[u8], length: u64) -> u8 {
         let stamp = self.stamp();
         let data = match length {

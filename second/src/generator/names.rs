@@ -89,13 +89,7 @@ fn allowed_path(w: &mut Writer) -> Vec<u8> {
 /// A path with a fault at some place, in one call or another.
 fn refused(w: &mut Writer) {
     let path = refused_path(w);
-    match w.rng.below(5) {
-        0 => w.find(&path),
-        1 => w.read(&path),
-        2 => w.mkdir(&path),
-        3 => w.delete(&path),
-        _ => w.mkfile(&path, 3),
-    };
+    w.any_call(&path);
 }
 
 fn refused_path(w: &mut Writer) -> Vec<u8> {
