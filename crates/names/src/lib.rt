@@ -179,11 +179,12 @@ fn part_step(state: u8, b: u8) -> u8
 }
 
 // What stands before the first zero byte, or is all there is: a good name of so many bytes, or none.
-pub enum Stored {
+enum Stored {
     Bytes(usize),
     Bad,
 }
 
+// The reader stops after n bytes: no character is begun, and the last part is good.
 fn ended(reader: Reader, part: u8, n: usize) -> Stored
     ensures { λ r. ⌜ r ≡ pick (eqb (reader .due) 0 && eqb part 3) (Stored.Bytes n) Stored.Bad ⌝ }
 {
