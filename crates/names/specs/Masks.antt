@@ -28,11 +28,18 @@ agreed true false e = sym e
 agreed false true e = e
 agreed false false e = refl
 
-module _ (b : ℕ) (h : b < 128) where
-  pub name-bits : bitOf 0x2BFFFBFB00000000 0x7FFFFFFFEFFFFFFF b ≡ codeGood b
-  unfolding checked bitOf pick agree codeGood within isMark any
-  name-bits = agreed _ _ (check-at (λ k. agree (bitOf 0x2BFFFBFB00000000 0x7FFFFFFFEFFFFFFF k) (codeGood k)) 128 b refl h)
+-- the characters of a name, and those of them that turn nothing
+abbrev nameBits : ℕ → Bool
+nameBits = bitOf 0x2BFFFBFB00000000 0x7FFFFFFFEFFFFFFF
 
-  pub part-bits : bitOf 0x2BFF3BFB00000000 0x7FFFFFFFEFFFFFFF b ≡ (codeGood b && turnsNothing b)
+abbrev partBits : ℕ → Bool
+partBits = bitOf 0x2BFF3BFB00000000 0x7FFFFFFFEFFFFFFF
+
+module _ (b : ℕ) (h : b < 128) where
+  pub name-bits : nameBits b ≡ codeGood b
+  unfolding checked bitOf pick agree codeGood within isMark any
+  name-bits = agreed _ _ (check-at (λ k. agree (nameBits k) (codeGood k)) 128 b refl h)
+
+  pub part-bits : partBits b ≡ (codeGood b && turnsNothing b)
   unfolding checked bitOf pick agree codeGood within isMark any turnsNothing
-  part-bits = agreed _ _ (check-at (λ k. agree (bitOf 0x2BFF3BFB00000000 0x7FFFFFFFEFFFFFFF k) (codeGood k && turnsNothing k)) 128 b refl h)
+  part-bits = agreed _ _ (check-at (λ k. agree (partBits k) (codeGood k && turnsNothing k)) 128 b refl h)

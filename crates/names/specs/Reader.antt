@@ -8,7 +8,7 @@ use lib.ListN.{length, getD, drop}
 use lib.Dec.{eqb, ltb}
 use borrow.Author.Tests.{ne-eqb, not-true}
 use Rattle.rules.specs.Lists.{pick, any}
-use Rattle.rules.specs.Lists.Laws.{and-true, and-right}
+use Rattle.rules.specs.Lists.Laws.{and-true, and-right, and-last}
 use Rattle.rules.specs.Fields.{upToZero, hasZero}
 use Rattle.rules.specs.Fields.Laws.{hasZero-ltb, zero-next, zero-more}
 use Rattle.rules.specs.Names.{slash, dot, textGood, pathGood, volumeTextGood}
@@ -38,11 +38,7 @@ module _ (P : List ℕ → Bool) (s : List ℕ) (r : Stored) (h : In P s r) wher
 
   -- of a field, which a zero must end
   pub field-bytes : (n : ℕ) → r ≡ Bytes n → ltb n (length s) ≡ (hasZero s && P (upToZero s))
-  field-bytes n e = let (f, g) = in-bytes n e in rw (g, f, hasZero-ltb s) (by (ltb (length (upToZero s)) (length s)))
-    where
-      by : (t : Bool) → t ≡ (t && true)
-      by true = refl
-      by false = refl
+  field-bytes n e = let (f, g) = in-bytes n e in rw (g, f, hasZero-ltb s) (sym (and-last _))
 
   pub field-bad : r ≡ Bad → false ≡ (hasZero s && P (upToZero s))
   field-bad e = sym (and-right (hasZero s) _ (in-bad e))
@@ -143,15 +139,7 @@ module _ (s : List ℕ) (r : Reader) (i : ℕ) (h : NameAt s r i) where
   unfolding volumeTextGood any
   name-end z =
       let f : any (eqb slash) (upToZero s) ≡ false = sym (h .3) ∙ ap (any (eqb slash)) z in
-      from-nil _ _ _ ∙ sym (ap (goodAt r) z) ∙ h .2 ∙ rw f (by (textGood (upToZero s)))
-    where
-      by : (t : Bool) → t ≡ (t && not false)
-      by true = refl
-      by false = refl
+      from-nil _ _ _ ∙ sym (ap (goodAt r) z) ∙ h .2 ∙ rw f (sym (and-last _))
 
   pub name-ended : upToZero (drop i s) ≡ [] → (e : Stored) → e ≡ pick (eqb (r .due) 0 && eqb 3 3) (Bytes i) Bad → In volumeTextGood s e
   name-ended z e f = ended-in volumeTextGood s i _ z (h .1) (and-last (eqb (r .due) 0) ∙ name-end z) e f
-    where
-      and-last : (t : Bool) → (t && true) ≡ t
-      and-last true = refl
-      and-last false = refl

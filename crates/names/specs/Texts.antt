@@ -23,11 +23,11 @@ goodFrom (suc n) lo hi [] = false
 goodFrom (suc n) lo hi (b ∷ bs) = within lo hi b && goodFrom n 0x80 0xBF bs
 
 -- there is no byte from 1 to 0: nothing goes on from there
-pub nowhere : (n : ℕ) (bs : List ℕ) → goodFrom (suc n) 1 0 bs ≡ false
+nowhere : (bs : List ℕ) → goodFrom 1 1 0 bs ≡ false
 unfolding goodFrom
-nowhere n [] = refl
-nowhere n (zero ∷ bs) = rw (within-below 1 0 zero (omega arith))
-nowhere n (suc b ∷ bs) = rw (within-above 1 0 (suc b) (omega arith))
+nowhere [] = refl
+nowhere (zero ∷ bs) = rw (within-below 1 0 zero (omega arith))
+nowhere (suc b ∷ bs) = rw (within-above 1 0 (suc b) (omega arith))
 
 -- ---- a row of RFC 3629's table, and what is left of it behind its first byte
 -- a code of the row that a name may have
@@ -156,7 +156,7 @@ module _ (a : ℕ) (bs : List ℕ) where
   begun-ascii e = let (p, q) = and-true (leb a 0x7F) (codeGood a) e in sym (text-ascii a bs (leb-true _ _ p) ∙ rw q)
 
   none : textGood (a ∷ bs) ≡ false → goodFrom 1 1 0 bs ≡ textGood (a ∷ bs)
-  none e = nowhere 0 bs ∙ sym e
+  none e = nowhere bs ∙ sym e
 
   ill-first : firstChar (a ∷ bs) ≡ ill → textGood (a ∷ bs) ≡ false
   unfolding goodFirst
@@ -259,10 +259,10 @@ module _ (n lo hi b : ℕ) (bs : List ℕ) where
   from-tail h = let e : n ≡ suc (n - 1) = omega arith in ap (λ k. goodFrom k lo hi (b ∷ bs)) e
 
   pub from-low : 0 < n → b < lo → goodFrom 1 1 0 bs ≡ goodFrom n lo hi (b ∷ bs)
-  from-low h k = nowhere 0 bs ∙ sym (from-tail h ∙ rw (within-below lo hi b k))
+  from-low h k = nowhere bs ∙ sym (from-tail h ∙ rw (within-below lo hi b k))
 
   pub from-high : 0 < n → hi < b → goodFrom 1 1 0 bs ≡ goodFrom n lo hi (b ∷ bs)
-  from-high h k = nowhere 0 bs ∙ sym (from-tail h ∙ rw (within-above lo hi b k))
+  from-high h k = nowhere bs ∙ sym (from-tail h ∙ rw (within-above lo hi b k))
 
   pub from-within : 0 < n → lo ≤ b → b ≤ hi → goodFrom (n - 1) 0x80 0xBF bs ≡ goodFrom n lo hi (b ∷ bs)
   from-within h k l = sym (from-tail h ∙ rw (within-in lo hi b k l))

@@ -24,6 +24,7 @@ const NAME_HIGH: u64 = 0x7FFF_FFFF_EFFF_FFFF;
 // The same without the slash and the dot, on which the parts of a path turn.
 const PART: u64 = 0x2BFF_3BFB_0000_0000;
 
+// The word that has the bit of b.
 fn half(low: u64, high: u64, b: u8) -> u64
     ensures { λ r. ⌜ r ≡ pick (ltb b 64) low high ⌝ }
 {

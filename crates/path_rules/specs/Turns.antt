@@ -5,7 +5,7 @@ use mathlib.Core.Bool.{Bool, true, false, _&&_, _||_, not}
 use mathlib.Core.List.{List, [], _∷_, _++_}
 use lib.ListN.{length, getD, take}
 use Rattle.rules.specs.Lists.{all, isSome}
-use Rattle.rules.specs.Lists.Laws.{all-append, and-left, and-right}
+use Rattle.rules.specs.Lists.Laws.{all-append, and-left, and-right, and-last}
 use Rattle.rules.specs.Names.{slash, leading}
 use Rattle.rules.specs.Names.Laws.{leading-slash, leading-other, leading-nil}
 use Rattle.rules.specs.Index.{Entry, liveType}
@@ -35,11 +35,7 @@ module _ (es : List Entry) (s : List ℕ) (i : ℕ) (more : 0 < i) (fits : i ≤
   slash-dead e d = slash-all e ∙ and-right (directoriesLive es (take (i - 1) s)) _ (and-left _ _ d)
 
   pub slash-live : getD s (i - 1) 0 ≡ slash → directoryLive es (take (i - 1) s) ≡ true → directoriesLive es (take (i - 1) s) ≡ directoriesLive es (take i s)
-  slash-live e d = sym (slash-all e ∙ rw d (by (directoriesLive es (take (i - 1) s))))
-    where
-      by : (t : Bool) → (t && (true && true)) ≡ t
-      by true = refl
-      by false = refl
+  slash-live e d = sym (slash-all e ∙ rw d (and-last (directoriesLive es (take (i - 1) s))))
 
   pub no-slash : (getD s (i - 1) 0 ≡ slash → ⊥) → directoriesLive es (take (i - 1) s) ≡ directoriesLive es (take i s)
   unfolding directoriesLive

@@ -8,7 +8,7 @@ use lib.Dec.{ltb}
 use Rattle.rules.specs.Lists.{pick}
 pub mod Laws
 
--- the bytes of a text of characters below 0x80
+-- the codes of the characters of a text: its bytes, where all are below 0x80
 abbrev pub text : String → List ℕ
 text String.[] = []
 text (String._∷_ c s) = code c ∷ text s

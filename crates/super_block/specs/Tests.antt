@@ -1,13 +1,14 @@
 -- The tests of the super-block as a program makes them: byte by byte.
 use Prim.Native.Nat.{ℕ, suc, _+_, _≤_}
 use mathlib.Core.Path.{_≡_, refl, _∙_}
-use mathlib.Core.Bool.{Bool, true, false, _&&_}
+use mathlib.Core.Bool.{_&&_}
 use mathlib.Core.List.{List, [], _∷_}
 use native.Mathlib.Omega.{arith}
 use lib.ListN.{length, getD}
 use lib.Seq.{drop-cons}
 use lib.Dec.{eqb}
 use Rattle.rules.specs.Lists.{part, eqList}
+use Rattle.rules.specs.Lists.Laws.{and-last}
 use Rattle.rules.specs.SuperBlock.{magicAt}
 use Rattle.rules.specs.Refusals.{magicGood}
 
@@ -18,10 +19,6 @@ part-cons s at n h = rw (drop-cons s at 0 (omega arith))
 part-nil : (s : List ℕ) (at : ℕ) → part s at 0 ≡ []
 unfolding part
 part-nil s at = refl
-
-and-last : (b : Bool) → (b && true) ≡ b
-and-last true = refl
-and-last false = refl
 
 pub magic-bytes : (s : List ℕ) → 512 ≤ length s
     → magicGood s ≡ (eqb (getD s magicAt 0) 0x53 && (eqb (getD s (magicAt + 1) 0) 0x46 && eqb (getD s (magicAt + 2) 0) 0x53))

@@ -1,4 +1,4 @@
--- Laws of names and paths: by cases, joined by a slash, and what is sure of one that is good.
+-- Laws of names and paths: codes, texts character by character, and what is sure of one that is good.
 use Prim.Native.Nat.{ℕ, suc, _+_, _-_, _≤_, _<_}
 use mathlib.Core.Path.{_≡_, refl, sym, ap, _∙_}
 use mathlib.Core.Bool.{Bool, true, false, _&&_, not}

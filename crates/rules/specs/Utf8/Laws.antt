@@ -163,7 +163,7 @@ module _ (c : ℕ) where
   encode-four h = rw (lt-leb c 0x7F (omega arith), lt-leb c 0x7FF (omega arith), lt-leb c 0xFFFF h)
 
 -- a code is small enough
-pub code-most : (c : ℕ) → isCode c ≡ true → c ≤ 0x10FFFF
+code-most : (c : ℕ) → isCode c ≡ true → c ≤ 0x10FFFF
 unfolding isCode
 code-most c e = leb-true _ _ (and-true (leb c 0x10FFFF) (not (within 0xD800 0xDFFF c)) e .0)
 
@@ -279,7 +279,7 @@ module _ (c : ℕ) (rest : List ℕ) where
       let b : t .byte ≡ 0x80 + c / 4096 % 64 = omega (arith, t .low, t .high) in
       (t .made ∙ rw (b, p), omega (arith, t .low, t .high))
 
-pub encode-first : (a : ℕ) (bs : List ℕ) (c : ℕ) (rest : List ℕ) → firstChar (a ∷ bs) ≡ char c rest → Encoded (a ∷ bs) c rest
+encode-first : (a : ℕ) (bs : List ℕ) (c : ℕ) (rest : List ℕ) → firstChar (a ∷ bs) ≡ char c rest → Encoded (a ∷ bs) c rest
 encode-first a bs c rest e = go (decLt a 0x80) (decLt a 0xC0) (decLt a 0xE0) (decLt a 0xF0) (decLt a 0xF8)
   where
     not-ill : firstChar (a ∷ bs) ≡ ill → Encoded (a ∷ bs) c rest
