@@ -1,5 +1,7 @@
 pub mod Sights
 pub mod Format
 pub mod Create
+pub mod Retype
 pub mod Delete
+pub mod Restore
 pub mod Reclaim

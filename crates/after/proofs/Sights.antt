@@ -10,7 +10,8 @@ use Rattle.rules.specs.Lists.Laws.{only-no}
 use Rattle.rules.specs.SuperBlock.{Geometry}
 use Rattle.rules.specs.Index.{Entry, runType, deletedType, typeUnusable}
 use Rattle.rules.specs.Reading.{fileBytes}
-use Rattle.rules.specs.Writing.{isDeleted, undeleted}
+use Rattle.rules.specs.Paths.{isDeleted}
+use Rattle.rules.specs.Writing.{undeleted}
 use Rattle.after.specs.After.{seen, Extent, extentOf, isUnusable}
 use Rattle.laws.proofs.Lists.Parts.{map-map, only-map, only-only, only-ext}
 use Rattle.laws.proofs.Lists.Every.{map-ext, all-of}

@@ -1,19 +1,23 @@
 -- What an accepted writing call leaves: the image opens again, and what the history sees of its entries has changed as told.
 use Prim.Native.Nat.{ℕ}
 use mathlib.Core.Path.{_≡_}
-use mathlib.Core.Bool.{Bool}
+use mathlib.Core.Bool.{Bool, true}
 use mathlib.Core.List.{List, [], _∷_, map}
+use mathlib.Core.Option.{some}
 use lib.IntN.{ℤ}
 use lib.Dec.{eqb}
-use Rattle.rules.specs.Lists.{only, pick, Perm}
+use Rattle.rules.specs.Lists.{pick, any, only, Perm}
 use Rattle.rules.specs.SuperBlock.{Geometry, blockLength}
-use Rattle.rules.specs.Index.{Entry, runType, fileType, typeFile, typeDirectory, typeUnusable}
+use Rattle.rules.specs.Index.{Entry, runType, typeUnusable}
 use Rattle.rules.specs.Regions.{blocksOf}
-use Rattle.rules.specs.Paths.{isLive}
+use Rattle.rules.specs.Names.{pathGood}
+use Rattle.rules.specs.Paths.{isLive, deletedAt, lookup}
 use Rattle.rules.specs.Refusals.{accepted, Volume, entries, judge}
 use Rattle.rules.specs.Reading.{fileBytes}
-use Rattle.rules.specs.Writing.{New, formatOf, createOf, deleteOf, reclaimOf}
-use Rattle.rules.specs.History.{Kept, keptOf, marked}
+use Rattle.rules.specs.Writing.{New, formatOf, createOf, liveKind, deleteOf, restoreOf, reclaimOf}
+use Rattle.rules.specs.Writing.Laws.{refusedWrite, wrote}
+use Rattle.rules.specs.History.{Kept, keptOf, marked, revived}
+use Rattle.laws.proofs.Index.Entries.{Bytes}
 
 -- files and directories, live or deleted; an unusable entry is none
 unfoldable pub isNamed : Entry → Bool
@@ -23,7 +27,7 @@ isNamed e = runType (e .kind)
 unfoldable pub seen : List ℕ → Geometry → Entry → Kept
 seen s g e = record {
   path = e .path;
-  kind = pick (fileType (e .kind)) typeFile typeDirectory;
+  kind = liveKind (e .kind);
   bytes = fileBytes s g e;
   blocks = blocksOf e;
   live = isLive e;
@@ -76,9 +80,39 @@ AfterDelete =
     → deleteOf s path stamp .refusal ≡ 0
     → Left (deleteOf s path stamp .image) (blockLength (v .geometry)) (map (marked path) (sight s v)) (unusables v)
 
+abbrev pub AfterRestore : Type 0
+AfterRestore =
+    (s : List ℕ) (v : Volume) (path : List ℕ) (stamp : ℤ)
+    → judge s ≡ accepted v
+    → restoreOf s path stamp .refusal ≡ 0
+    → Left (restoreOf s path stamp .image) (blockLength (v .geometry)) (map (revived path) (sight s v)) (unusables v)
+
 abbrev pub AfterReclaim : Type 0
 AfterReclaim =
     (s : List ℕ) (v : Volume) (stamp : ℤ)
     → judge s ≡ accepted v
     → reclaimOf s stamp .refusal ≡ 0
     → Left (reclaimOf s stamp .image) (blockLength (v .geometry)) (only (λ k. k .live) (sight s v)) (unusables v)
+
+-- ---- two calls, one after the other
+-- a delete, then a restore with the stamp that the entry had: the image is what it was, byte for byte; or, where another entry of the path had
+-- been deleted before, 19
+abbrev pub DeletedRestored : Type 0
+DeletedRestored =
+    (s : List ℕ) (v : Volume) (path : List ℕ) (e : Entry) (stamp : ℤ)
+    → Bytes s
+    → judge s ≡ accepted v
+    → lookup path (entries v) ≡ some e
+    → deleteOf s path stamp .refusal ≡ 0
+    → let t : List ℕ = deleteOf s path stamp .image in
+    restoreOf t path (e .stamp) ≡ pick (any (deletedAt path) (entries v)) (refusedWrite t 19) (wrote s)
+
+-- a reclaim, then a restore: 11
+abbrev pub ReclaimedRestored : Type 0
+ReclaimedRestored =
+    (s : List ℕ) (v : Volume) (path : List ℕ) (first second : ℤ)
+    → judge s ≡ accepted v
+    → reclaimOf s first .refusal ≡ 0
+    → pathGood path ≡ true
+    → let t : List ℕ = reclaimOf s first .image in
+    restoreOf t path second ≡ refusedWrite t 11

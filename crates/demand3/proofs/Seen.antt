@@ -5,7 +5,7 @@ use mathlib.Core.Bool.{Bool, true, false}
 use mathlib.Core.List.{List, [], _∷_, map}
 use native.Mathlib.Omega.{arith}
 use Rattle.rules.specs.Lists.{pick, keepIf, only, sum, All, Pairs}
-use Rattle.rules.specs.Lists.Laws.{clash, or-right}
+use Rattle.rules.specs.Lists.Laws.{clash, or-right, sum-map}
 use Rattle.rules.specs.SuperBlock.{Geometry}
 use Rattle.rules.specs.Index.{Entry, runType, directoryType, fileType, liveType, typeFile, typeDirectory}
 use Rattle.rules.specs.Regions.{blocksOf, regionsSound, heldBlocks}
@@ -14,7 +14,6 @@ use Rattle.rules.specs.Paths.{isLive}
 use Rattle.rules.specs.Refusals.{Volume, entries}
 use Rattle.rules.specs.History.{NoShared, nameOfEntry, nameOfKept}
 use Rattle.after.specs.After.{isNamed, seen, sight}
-use Rattle.laws.proofs.Lists.Parts.{sum-map}
 use Rattle.laws.proofs.Lists.Every.{pairs-weaken, pairs-only}
 use Rattle.laws.proofs.Entries.EntryKinds.{live-cases, run-usable}
 use Rattle.laws.proofs.Entries.Regions.{Settled, sound-says}

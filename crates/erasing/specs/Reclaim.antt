@@ -15,7 +15,8 @@ use Rattle.rules.specs.Index.{Entry, deletedType, slotAt, unusedBytes, itemsOf,
 use Rattle.rules.specs.Index.Laws.{length-unusedBytes}
 use Rattle.rules.specs.Index.Walk.{walkAll, pick-both}
 use Rattle.rules.specs.Refusals.{accepted, judge}
-use Rattle.rules.specs.Writing.{isDeleted, undeleted, cleared, leastEnd, reclaimOf}
+use Rattle.rules.specs.Paths.{isDeleted}
+use Rattle.rules.specs.Writing.{undeleted, cleared, leastEnd, reclaimOf}
 use Rattle.rules.specs.Writing.Laws.{wrote, reclaim-done}
 use Rattle.laws.proofs.Lists.Spans.{drop-splice-after}
 use Rattle.laws.proofs.Index.Slots.{slot-at}

@@ -13,7 +13,8 @@ use Rattle.rules.specs.SuperBlock.{Geometry, dataEnd}
 use Rattle.rules.specs.Index.{Entry, Item, unused, entry, fault, fileType, itemAt, entriesOf, walk, followed, slotBytes}
 use Rattle.rules.specs.Index.Walk.{walkAll}
 use Rattle.rules.specs.Regions.{blocksOf, heldBlocks, withinData, fileRegionGood, regionGood, regionsSound}
-use Rattle.rules.specs.Writing.{isDeleted, undeleted, leastEnd}
+use Rattle.rules.specs.Paths.{isDeleted}
+use Rattle.rules.specs.Writing.{undeleted, leastEnd}
 use Rattle.geometry.specs.declared.Geometry.{Geometry as Held}
 use Rattle.geometry.specs.View.{geometryView}
 use Rattle.index.specs.declared.Cursor.{Cursor}

@@ -1,7 +1,7 @@
 -- 01, "The history": what it holds, how each call feeds it, and the statements of demand 3 and of the claim about two images.
 use Prim.Native.Nat.{ℕ, _+_, _-_, _*_, _≤_}
 use mathlib.Core.Path.{_≡_}
-use mathlib.Core.Bool.{Bool, true, false, _&&_, not}
+use mathlib.Core.Bool.{Bool, true, false, _&&_, _||_, not}
 use mathlib.Core.List.{List, [], _∷_, map}
 use lib.ListN.{length, drop}
 use lib.Dec.{eqb}
@@ -15,7 +15,8 @@ use Rattle.rules.specs.Paths.{isLive}
 use Rattle.rules.specs.Refusals.{accepted, Volume, entries, judge}
 use Rattle.rules.specs.Outcome.{Outcome, done}
 use Rattle.rules.specs.Reading.{openOf, findOf, listOf, readOf}
-use Rattle.rules.specs.Writing.{New, kindOf, bytesOf, formatOf, createOf, deleteOf, reclaimOf}
+use Rattle.rules.specs.Writing.{New, kindOf, bytesOf, formatOf, createOf, deleteOf, restoreOf, reclaimOf}
+pub mod Laws
 
 -- ---- the calls, with any arguments and lent outputs
 pub data Call : Type 0 where
@@ -26,6 +27,7 @@ pub data Call : Type 0 where
   read : List ℕ → List ℕ → Call
   create : New → List ℕ → ℤ → Call
   delete : List ℕ → ℤ → Call
+  restore : List ℕ → ℤ → Call
   reclaim : ℤ → Call
 
 -- what passes from call to call: whether it answered 0, and the image
@@ -44,6 +46,7 @@ step s (list slot out) = passed (listOf s slot out)
 step s (read path out) = passed (readOf s path out)
 step s (create new path stamp) = passed (createOf s new path stamp)
 step s (delete path stamp) = passed (deleteOf s path stamp)
+step s (restore path stamp) = passed (restoreOf s path stamp)
 step s (reclaim stamp) = passed (reclaimOf s stamp)
 
 -- ---- what the history holds
@@ -73,9 +76,17 @@ keptOf blockLen new path = record {
   live = true;
 }
 
+-- all as it was, but whether it is live
+abbrev pub withLive : Kept → Bool → Kept
+withLive k live = record { path = k .path; kind = k .kind; bytes = k .bytes; blocks = k .blocks; live = live }
+
 -- the path's live entry is marked deleted
 unfoldable pub marked : List ℕ → Kept → Kept
-marked p k = record { path = k .path; kind = k .kind; bytes = k .bytes; blocks = k .blocks; live = k .live && not (eqList (k .path) p) }
+marked p k = withLive k (k .live && not (eqList (k .path) p))
+
+-- the path's deleted entry is live again; a restore is accepted where there is one, and no live one
+unfoldable pub revived : List ℕ → Kept → Kept
+revived p k = withLive k (k .live || eqList (k .path) p)
 
 -- how an accepted call feeds it; a refused one changes nothing
 unfoldable pub fed : History → Call → History
@@ -89,6 +100,8 @@ fed h (create new path stamp) =
     record { blockBytes = h .blockBytes; kept = k ∷ h .kept; granted = h .granted + k .blocks; givenBack = h .givenBack }
 fed h (delete path stamp) =
     record { blockBytes = h .blockBytes; kept = map (marked path) (h .kept); granted = h .granted; givenBack = h .givenBack }
+fed h (restore path stamp) =
+    record { blockBytes = h .blockBytes; kept = map (revived path) (h .kept); granted = h .granted; givenBack = h .givenBack }
 fed h (reclaim stamp) = record {
   blockBytes = h .blockBytes;
   kept = only (λ k. k .live) (h .kept);

@@ -1,4 +1,4 @@
--- 01, "Index area": live entries, their paths and their directories.
+-- 01, "Index area": live and deleted entries, their paths and their directories.
 use Prim.Native.Nat.{ℕ}
 use mathlib.Core.Bool.{Bool, _&&_, _||_, not}
 use mathlib.Core.List.{List}
@@ -6,7 +6,7 @@ use mathlib.Core.Option.{Option}
 use lib.Dec.{eqb, leb}
 use Rattle.rules.specs.Lists.{all, any, everyTwo, first, eqList}
 use Rattle.rules.specs.Names.{leading, isBelow}
-use Rattle.rules.specs.Index.{Entry, liveType, typeDirectory}
+use Rattle.rules.specs.Index.{Entry, liveType, deletedType, typeDirectory}
 pub mod Laws
 
 unfoldable pub isLive : Entry → Bool
@@ -14,6 +14,12 @@ isLive e = liveType (e .kind)
 
 unfoldable pub liveAt : List ℕ → Entry → Bool
 liveAt p e = isLive e && eqList (e .path) p
+
+unfoldable pub isDeleted : Entry → Bool
+isDeleted e = deletedType (e .kind)
+
+unfoldable pub deletedAt : List ℕ → Entry → Bool
+deletedAt p e = isDeleted e && eqList (e .path) p
 
 -- the live entry of a path
 unfoldable pub lookup : List ℕ → List Entry → Option Entry

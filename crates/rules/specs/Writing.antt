@@ -1,4 +1,4 @@
--- 01, "The calls": format, create, delete and reclaim. They give no number but the refusal.
+-- 01, "The calls": format, create, delete, restore and reclaim. They give no number but the refusal.
 use Prim.Native.Nat.{ℕ, zero, suc, _+_, _-_, _*_, _/_}
 use mathlib.Core.Bool.{Bool, true, false, _&&_, not}
 use mathlib.Core.List.{List, [], _∷_, _++_}
@@ -6,13 +6,13 @@ use mathlib.Core.Option.{Option, none, some}
 use lib.ListN.{length}
 use lib.Dec.{eqb, leb}
 use lib.IntN.{ℤ}
-use Rattle.rules.specs.Lists.{pick, only, firstIf, padded, largest}
+use Rattle.rules.specs.Lists.{pick, only, first, firstIf, padded, largest}
 use Rattle.rules.specs.Fields.{splice}
 use Rattle.rules.specs.SuperBlock.{Geometry, blockBytes, blockLength, ceilingBlock, dataEnd, mostIndexBytes, fieldOf, geometryGood, lengthGood, growIndex, extendData, trimData, restamp, superBlockBytes, superBlockAt, putSizes, version10, writable}
 use Rattle.rules.specs.Names.{pathGood, newPathGood, volumeNameGood, leading}
-use Rattle.rules.specs.Index.{Entry, Item, unused, entry, fault, fileType, deletedType, typeFile, typeDirectory, typeDeletedFile, typeDeletedDirectory, slotBytes, slotAt, markerBytes, identifierBytes, unusedBytes, continuing, runBytes, retyped}
+use Rattle.rules.specs.Index.{Entry, Item, unused, entry, fault, fileType, typeFile, typeDirectory, typeDeletedFile, typeDeletedDirectory, slotBytes, slotAt, markerBytes, identifierBytes, unusedBytes, continuing, runBytes, retyped}
 use Rattle.rules.specs.Regions.{lowestFree, blocksNeeded}
-use Rattle.rules.specs.Paths.{lookup, directoryLive, anyBelow}
+use Rattle.rules.specs.Paths.{isDeleted, deletedAt, lookup, directoryLive, anyBelow}
 use Rattle.rules.specs.Lists.{isSome}
 use Rattle.rules.specs.Refusals.{Verdict, accepted, need, needFound, Volume, entries}
 use Rattle.rules.specs.Outcome.{Outcome, done, conclude, onVolume}
@@ -192,10 +192,24 @@ deleteOf s path stamp =
     need (not (anyBelow path (entries v))) 14
     (accepted (done tt (deleted s (slotAt s (v .geometry) (e .slot)) e stamp) [])))))
 
--- ---- reclaim: deleted runs become unused slots, the data area its least size
-unfoldable pub isDeleted : Entry → Bool
-isDeleted e = deletedType (e .kind)
+-- ---- restore: the type and the stamp of the path's one deleted entry, file or directory
+unfoldable pub liveKind : ℕ → ℕ
+liveKind t = pick (fileType t) typeFile typeDirectory
 
+unfoldable pub restored : List ℕ → ℕ → Entry → ℤ → List ℕ
+restored s at e stamp = retyped s at (liveKind (e .kind)) stamp
+
+unfoldable pub restoreOf : List ℕ → List ℕ → ℤ → Written
+restoreOf s path stamp =
+    onWritable s (λ v.
+    need (pathGood path) 10
+    (needFound (first (deletedAt path) (entries v)) 11 (λ e.
+    need (not (isSome (lookup path (entries v)))) 12
+    (need (nearestLive (entries v) (leading path)) 13
+    (need (leb (length (only (deletedAt path) (entries v))) 1) 19
+    (accepted (done tt (restored s (slotAt s (v .geometry) (e .slot)) e stamp) [])))))))
+
+-- ---- reclaim: deleted runs become unused slots, the data area its least size
 -- the entries that are left
 abbrev pub undeleted : List Entry → List Entry
 undeleted es = only (λ e. not (isDeleted e)) es

@@ -7,11 +7,11 @@ use native.Mathlib.Omega.{arith}
 use lib.ListN.{length}
 use Rattle.rules.specs.Lists.{pick, only, Perm}
 use Rattle.rules.specs.SuperBlock.{Geometry}
-use Rattle.rules.specs.Index.{Entry, fileType, liveType, typeFile, typeDirectory}
+use Rattle.rules.specs.Index.{Entry, fileType, liveType}
 use Rattle.rules.specs.Regions.{blocksOf, blocksNeeded, regionsSound}
 use Rattle.rules.specs.Paths.{isLive, pathsSound}
 use Rattle.rules.specs.Reading.{fileBytes}
-use Rattle.rules.specs.Writing.{New, newFile, newDirectory, kindOf, bytesOf}
+use Rattle.rules.specs.Writing.{New, newFile, newDirectory, kindOf, bytesOf, liveKind}
 use Rattle.rules.specs.History.{keptOf}
 use Rattle.after.specs.After.{isNamed, seen, extentOf, isUnusable}
 use Rattle.laws.proofs.Lists.Parts.{only-map, map-map}
@@ -49,8 +49,8 @@ module _ (es fs : List Entry) (p : Perm (map core es) (map core fs)) where
   extents-order = rw (← extents-map core core-region es, ← extents-map core core-region fs) (perm-map extentOf (perm-only isUnusable p))
 
 -- ---- the new entry
-new-kind : (new : New) → (pick (fileType (kindOf new)) typeFile typeDirectory ≡ kindOf new) × (liveType (kindOf new) ≡ true)
-unfolding kindOf fileType liveType pick
+new-kind : (new : New) → (liveKind (kindOf new) ≡ kindOf new) × (liveType (kindOf new) ≡ true)
+unfolding kindOf liveKind fileType liveType pick
 new-kind (newFile bytes) = (refl, refl)
 new-kind newDirectory = (refl, refl)
 
@@ -60,7 +60,7 @@ pub seen-new : (t : List ℕ) (w : Geometry) (e : Entry) (n : New) (path : List 
 unfolding seen keptOf isLive blocksOf
 seen-new t w e n path slot start blocks m bytes-are block q =
     let k = new-kind n in
-    let kind-is : pick (fileType (e .kind)) typeFile typeDirectory ≡ kindOf n = ap (λ (t : ℕ). pick (fileType t) typeFile typeDirectory) (m .kind-is) ∙ k .0 in
+    let kind-is : liveKind (e .kind) ≡ kindOf n = ap liveKind (m .kind-is) ∙ k .0 in
     let blocks-are : e .end - e .start ≡ blocksNeeded block (length (bytesOf n)) = omega (arith, m .start-is, m .end-is) in
     let live-is : liveType (e .kind) ≡ true = ap liveType (m .kind-is) ∙ k .1 in
     cc (m .path-is, kind-is, bytes-are, blocks-are, live-is)

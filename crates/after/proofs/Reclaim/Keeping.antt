@@ -11,8 +11,7 @@ use Rattle.rules.specs.SuperBlock.{Geometry, blockLength}
 use Rattle.rules.specs.SuperBlock.Laws.{GoodGeometry}
 use Rattle.rules.specs.Index.{Entry, fileType, directoryType, runType, liveType, deletedType, typeFile, typeDirectory, typeDeletedFile, typeDeletedDirectory}
 use Rattle.rules.specs.Regions.{regionsSound}
-use Rattle.rules.specs.Paths.{isLive}
-use Rattle.rules.specs.Writing.{isDeleted}
+use Rattle.rules.specs.Paths.{isLive, isDeleted}
 use Rattle.after.specs.After.{isNamed, seen}
 use Rattle.laws.proofs.Lists.Parts.{only-only, only-ext, only-map}
 use Rattle.laws.proofs.Lists.Every.{map-ext, all-weaken, all-and, all-only}

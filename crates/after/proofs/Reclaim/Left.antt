@@ -13,7 +13,8 @@ use Rattle.rules.specs.Index.{Entry, itemsOf}
 use Rattle.rules.specs.Regions.{regionsSound}
 use Rattle.rules.specs.Refusals.{accepted, Volume, entries, judge}
 use Rattle.rules.specs.Refusals.Laws.{GoodSuper, Opens, judge-opens, opens-judge, opens-super, sizes-super}
-use Rattle.rules.specs.Writing.{reclaimOf, cleared, undeleted, leastEnd, isDeleted}
+use Rattle.rules.specs.Paths.{isDeleted}
+use Rattle.rules.specs.Writing.{reclaimOf, cleared, undeleted, leastEnd}
 use Rattle.after.specs.After.{Left, sight, unusables, AfterReclaim}
 use Rattle.laws.proofs.Lists.Perms.{perm-of}
 use Rattle.laws.proofs.Index.Items.{noFault}

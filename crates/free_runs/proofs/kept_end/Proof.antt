@@ -1,6 +1,6 @@
 use mathlib.Core.Path.{sym, _∙_}
 use Rattle.rules.specs.Lists.{pick}
-use Rattle.rules.specs.Writing.{isDeleted}
+use Rattle.rules.specs.Paths.{isDeleted}
 use Rattle.slots.specs.View.{headView}
 use Rattle.free_runs.specs.Sums.{keptEnd}
 use borrow.Author.Needs.{needs}

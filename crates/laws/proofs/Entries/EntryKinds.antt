@@ -1,4 +1,4 @@
--- Kinds of entries: a live one, and what it is when deleted. Assumes nothing.
+-- Kinds of entries: a live one and what it is when deleted, a deleted one and what it is when restored. Assumes nothing.
 use Prim.Native.Nat.{ℕ}
 use mathlib.Core.Path.{_≡_, refl, sym, subst}
 use mathlib.Core.Bool.{Bool, true, false, _||_, not}
@@ -8,50 +8,45 @@ use Rattle.rules.specs.Lists.{pick}
 use Rattle.rules.specs.Lists.Laws.{clash}
 use Rattle.rules.specs.Index.{Entry, fileType, directoryType, runType, liveType, deletedType, typeFile, typeDirectory, typeDeletedFile, typeDeletedDirectory, typeUnusable}
 use Rattle.rules.specs.Index.Walk.{pick-both}
-use Rattle.rules.specs.Paths.{isLive}
-use Rattle.rules.specs.Writing.{deletedKind, isDeleted}
+use Rattle.rules.specs.Paths.{isLive, isDeleted}
+use Rattle.rules.specs.Writing.{deletedKind, liveKind}
 
--- what holds of both live kinds
+-- ---- what holds of each kind
+either : (P : Bool → Type 0) (a b : Bool) → (a || b) ≡ true → (a ≡ true → P true) → (b ≡ true → P true) → P true
+either P true b e f g = f refl
+either P false b e f g = g e
+
+two-cases : (a b : ℕ) (P : ℕ → Type 0) → P a → P b → (t : ℕ) → (eqb t a || eqb t b) ≡ true → P t
+two-cases a b P x y t h =
+    either (λ _. P t) (eqb t a) (eqb t b) h (λ e. subst P (sym (eqb-true t a e)) x) (λ e. subst P (sym (eqb-true t b e)) y)
+
 pub live-cases : (P : ℕ → Type 0) → P typeDirectory → P typeFile → (t : ℕ) → liveType t ≡ true → P t
 unfolding liveType
-live-cases P d f t h = go (eqb t typeDirectory) refl h
-  where
-    go : (b : Bool) → eqb t typeDirectory ≡ b → (b || eqb t typeFile) ≡ true → P t
-    go true e p = subst P (sym (eqb-true t typeDirectory e)) d
-    go false e p = subst P (sym (eqb-true t typeFile p)) f
+live-cases P d f t h = two-cases typeDirectory typeFile P d f t h
 
--- a kind with the same rules for its region
-abbrev pub Alike : ℕ → ℕ → Type 0
-Alike t u = (fileType u ≡ fileType t) × (eqb u typeUnusable ≡ eqb t typeUnusable)
+deleted-cases : (P : ℕ → Type 0) → P typeDeletedDirectory → P typeDeletedFile → (t : ℕ) → deletedType t ≡ true → P t
+unfolding deletedType
+deleted-cases P d f t h = two-cases typeDeletedDirectory typeDeletedFile P d f t h
 
-pub deleted-alike : (t : ℕ) → liveType t ≡ true → Alike t (deletedKind t)
-unfolding deletedKind fileType pick
-deleted-alike = live-cases (λ t. Alike t (deletedKind t)) (refl, refl) (refl, refl)
+run-cases : (P : ℕ → Type 0) → P typeDirectory → P typeDeletedDirectory → P typeFile → P typeDeletedFile → (t : ℕ) → runType t ≡ true → P t
+unfolding runType directoryType fileType
+run-cases P d e f g t h =
+    either (λ _. P t) (directoryType t) (fileType t) h
+    (λ x. two-cases typeDirectory typeDeletedDirectory P d e t x)
+    (λ x. two-cases typeFile typeDeletedFile P f g t x)
 
--- a live entry is a run's, and so is what it is when deleted
+-- ---- live and deleted entries are runs', and a run's is one or the other
 pub live-run : (e : Entry) → isLive e ≡ true → runType (e .kind) ≡ true
 unfolding isLive runType directoryType fileType
 live-run e = live-cases (λ t. runType t ≡ true) refl refl (e .kind)
 
-pub deleted-file : (t : ℕ) → fileType (deletedKind t) ≡ fileType t
-unfolding deletedKind fileType pick
-deleted-file t = by (fileType t)
-  where
-    by : (b : Bool) → fileType (pick b typeDeletedFile typeDeletedDirectory) ≡ b
-    by true = refl
-    by false = refl
+pub deleted-named : (e : Entry) → isDeleted e ≡ true → runType (e .kind) ≡ true
+unfolding isDeleted runType directoryType fileType
+deleted-named e = deleted-cases (λ t. runType t ≡ true) refl refl (e .kind)
 
-pub deleted-run : (t : ℕ) → runType (deletedKind t) ≡ true
-unfolding deletedKind runType directoryType fileType
-deleted-run t = pick-both (λ (u : ℕ). runType u ≡ true) (fileType t) typeDeletedFile typeDeletedDirectory refl refl
-
-pub deleted-gone : (t : ℕ) → liveType (deletedKind t) ≡ false
-unfolding liveType deletedKind pick
-deleted-gone t = by (fileType t)
-  where
-    by : (b : Bool) → liveType (pick b typeDeletedFile typeDeletedDirectory) ≡ false
-    by true = refl
-    by false = refl
+pub run-either : (e : Entry) → runType (e .kind) ≡ true → (isLive e || isDeleted e) ≡ true
+unfolding isLive isDeleted liveType deletedType
+run-either e = run-cases (λ t. (liveType t || deletedType t) ≡ true) refl refl refl refl (e .kind)
 
 pub live-kept : (e : Entry) → isLive e ≡ true → not (isDeleted e) ≡ true
 unfolding isLive isDeleted deletedType
@@ -61,3 +56,43 @@ live-kept e = live-cases (λ t. not (deletedType t) ≡ true) refl refl (e .kind
 pub run-usable : (t : ℕ) → runType t ≡ true → eqb t typeUnusable ≡ false
 unfolding runType directoryType fileType
 run-usable t r = ne-eqb t typeUnusable (λ e. clash (sym (rw e at r)))
+
+-- ---- what an entry is when deleted, and when restored: a file stays one
+kind-file : (f d : ℕ) → fileType f ≡ true → fileType d ≡ false → (b : Bool) → fileType (pick b f d) ≡ b
+unfolding pick
+kind-file f d x y true = x
+kind-file f d x y false = y
+
+pub deleted-file : (t : ℕ) → fileType (deletedKind t) ≡ fileType t
+unfolding deletedKind fileType
+deleted-file t = kind-file typeDeletedFile typeDeletedDirectory refl refl (fileType t)
+
+pub live-file : (t : ℕ) → fileType (liveKind t) ≡ fileType t
+unfolding liveKind fileType
+live-file t = kind-file typeFile typeDirectory refl refl (fileType t)
+
+pub deleted-run : (t : ℕ) → runType (deletedKind t) ≡ true
+unfolding deletedKind runType directoryType fileType
+deleted-run t = pick-both (λ (u : ℕ). runType u ≡ true) (fileType t) typeDeletedFile typeDeletedDirectory refl refl
+
+pub live-runs : (t : ℕ) → runType (liveKind t) ≡ true
+unfolding liveKind runType directoryType fileType
+live-runs t = pick-both (λ (u : ℕ). runType u ≡ true) (fileType t) typeFile typeDirectory refl refl
+
+pub deleted-gone : (t : ℕ) → liveType (deletedKind t) ≡ false
+unfolding liveType deletedKind
+deleted-gone t = pick-both (λ (u : ℕ). liveType u ≡ false) (fileType t) typeDeletedFile typeDeletedDirectory refl refl
+
+pub live-back : (t : ℕ) → liveType (liveKind t) ≡ true
+unfolding liveType liveKind
+live-back t = pick-both (λ (u : ℕ). liveType u ≡ true) (fileType t) typeFile typeDirectory refl refl
+
+-- restored after it was deleted, a live kind is what it was
+pub live-again : (t : ℕ) → liveType t ≡ true → liveKind (deletedKind t) ≡ t
+unfolding liveKind deletedKind fileType pick
+live-again = live-cases (λ t. liveKind (deletedKind t) ≡ t) refl refl
+
+-- a live kind is its own
+pub live-kind : (t : ℕ) → liveType t ≡ true → liveKind t ≡ t
+unfolding liveKind fileType pick
+live-kind = live-cases (λ t. liveKind t ≡ t) refl refl

@@ -1,4 +1,4 @@
--- Sound paths stay sound: in another order, with one live entry more, with one deleted, and without the deleted ones. Assumes nothing.
+-- Sound paths stay sound: in another order, with one live entry more, with one deleted, with one restored, and without the deleted ones. Assumes nothing.
 use Prim.Native.Nat.{ℕ}
 use mathlib.Core.Path.{_≡_, refl, sym, ap, ap₂, subst, _∙_}
 use mathlib.Core.Bool.{Bool, true, false, _&&_, _||_, not}
@@ -7,14 +7,14 @@ use mathlib.Core.Option.{none, some}
 use lib.Dec.{eqb}
 use borrow.Author.Tests.{not-true}
 use Rattle.rules.specs.Lists.{any, everyTwo, only, eqList, All, Pairs, Perm}
-use Rattle.rules.specs.Lists.Laws.{and-true, and-both, or-right, eqList-refl, eqList-true}
+use Rattle.rules.specs.Lists.Laws.{and-true, and-both, and-left, or-right, only-yes, eqList-refl, eqList-true}
 use Rattle.rules.specs.Names.{leading, isBelow}
 use Rattle.rules.specs.Index.{Entry, liveType, typeFile, typeDirectory}
-use Rattle.rules.specs.Paths.{isLive, liveAt, lookup, isDirectoryAt, directoryLive, directoriesLive, pathsDiffer, pathsSound, anyBelow}
-use Rattle.rules.specs.Writing.{nearestLive, isDeleted}
-use Rattle.laws.proofs.Lists.Parts.{map-append, any-map, any-ext, any-only}
-use Rattle.laws.proofs.Lists.Every.{or-left, or-not-says, or-not-holds, not-both, is-false, all-weaken, all-of, all-and, all-join, all-only, all-map, pairs-weaken, pairs-split, pairs-only, pairs-map, all-says, all-holds, two-says, two-holds, none-passes, any-found, all-found, any-weaken, first-at, none-says, every-map, every-ext, two-map, two-ext, map-same}
-use Rattle.laws.proofs.Lists.Perms.{perm-every, perm-any, perm-two}
+use Rattle.rules.specs.Paths.{isLive, isDeleted, liveAt, deletedAt, lookup, isDirectoryAt, directoryLive, directoriesLive, pathsDiffer, pathsSound, anyBelow}
+use Rattle.rules.specs.Writing.{nearestLive}
+use Rattle.laws.proofs.Lists.Parts.{any-map, any-ext, any-only}
+use Rattle.laws.proofs.Lists.Every.{or-left, or-not-says, or-not-holds, not-both, is-false, all-weaken, all-of, all-and, all-join, all-at, all-only, all-map, pairs-weaken, pairs-split, pairs-only, pairs-map, all-says, all-holds, two-says, two-holds, none-passes, any-found, all-found, any-weaken, first-at, none-says, every-map, every-ext, two-map, two-ext, only-but}
+use Rattle.laws.proofs.Lists.Perms.{perm-every, perm-any, perm-two, perm-insert}
 use Rattle.laws.proofs.Entries.EntryKinds.{live-kept}
 use Rattle.laws.proofs.Entries.Leading.{Above, top, under, above, below-leading}
 
@@ -131,13 +131,6 @@ lookup-live es pre e post h w a =
     let r = live-alone pre e post (paths-says _ (rw w at h) .differ) a in
     rw w (first-at (liveAt (e .path)) pre e post (r .0) (liveAt-holds (e .path) e a refl))
 
--- what changes the live entry of a path, and no other, changes one element
-pub map-live : (f : Entry → Entry) (pre : List Entry) (e : Entry) (post : List Entry) → pathsSound (pre ++ (e ∷ post)) ≡ true → isLive e ≡ true
-    → ((x : Entry) → liveAt (e .path) x ≡ false → f x ≡ x) → map f (pre ++ (e ∷ post)) ≡ pre ++ (f e ∷ post)
-map-live f pre e post h a k =
-    let r = live-alone pre e post (paths-says _ h .differ) a in
-    map-append f pre (e ∷ post) ∙ ap₂ (λ us vs. us ++ (f e ∷ vs)) (map-same f pre (all-weaken _ _ k pre (r .0))) (map-same f post (all-weaken _ _ k post (r .1)))
-
 -- ---- a new live entry
 directory-more : (e : Entry) (es : List Entry) (d : List ℕ) → directoryLive es d ≡ true → directoryLive (e ∷ es) d ≡ true
 unfolding directoryLive any
@@ -205,6 +198,32 @@ paths-only q k es h =
 pub paths-reclaim : (es : List Entry) → pathsSound es ≡ true → pathsSound (only (λ e. not (isDeleted e)) es) ≡ true
 paths-reclaim es h = paths-only (λ e. not (isDeleted e)) live-kept es h
 
+-- ---- a deleted entry live again
+pub deletedAt-says : (p : List ℕ) (e : Entry) → deletedAt p e ≡ true → (isDeleted e ≡ true) × (e .path ≡ p)
+unfolding deletedAt
+deletedAt-says p e h = let q = and-true (isDeleted e) (eqList (e .path) p) h in (q .0, eqList-true (e .path) p (q .1))
+
+pub deletedAt-holds : (p : List ℕ) (e : Entry) → isDeleted e ≡ true → e .path ≡ p → deletedAt p e ≡ true
+unfolding deletedAt
+deletedAt-holds p e a b = and-both (isDeleted e) (eqList (e .path) p) a (ap (λ q. eqList q p) b ∙ eqList-refl p)
+
+live-not-deleted : (p : List ℕ) (e : Entry) → isLive e ≡ true → not (deletedAt p e) ≡ true
+unfolding deletedAt
+live-not-deleted p e a = ap not (and-left (isDeleted e) (eqList (e .path) p) (not-true (isDeleted e) (live-kept e a)))
+
+-- f in the place of e, the one deleted entry of its path, where the path is not live and its directory is: f is new, and e is gone
+module _ (p : List ℕ) (pre : List Entry) (e f : Entry) (post : List Entry) (before : All (λ x. deletedAt p x ≡ false) pre) (here : deletedAt p e ≡ true) (behind : All (λ x. deletedAt p x ≡ false) post) where
+  pub paths-restore : isLive f ≡ true → f .path ≡ p → lookup p (pre ++ (e ∷ post)) ≡ none → nearestLive (pre ++ (e ∷ post)) (leading p) ≡ true
+      → pathsSound (pre ++ (e ∷ post)) ≡ true → pathsSound (pre ++ (f ∷ post)) ≡ true
+  paths-restore live is l n h =
+      let q : Entry → Bool = λ x. not (deletedAt p x) in
+      let more : pathsSound (f ∷ (pre ++ (e ∷ post))) ≡ true =
+      paths-create (pre ++ (e ∷ post)) f (ap (λ u. lookup u (pre ++ (e ∷ post))) is ∙ l) (ap (λ u. nearestLive (pre ++ (e ∷ post)) (leading u)) is ∙ n) h in
+      let one : only q (f ∷ (pre ++ (e ∷ post))) ≡ f ∷ (pre ++ post) =
+      only-yes q f (pre ++ (e ∷ post)) (live-not-deleted p f live)
+      ∙ ap (λ us. f ∷ us) (only-but q pre e post (all-weaken _ _ (λ x k. ap not k) pre before) (ap not here) (all-weaken _ _ (λ x k. ap not k) post behind)) in
+      sym (paths-perm (perm-insert f pre post)) ∙ sym (ap pathsSound one) ∙ paths-only q (live-not-deleted p) (f ∷ (pre ++ (e ∷ post))) more
+
 -- ---- a live entry deleted
 -- the entry of the path is no longer live, and the others are as they were
 pub record TakesAway (path : List ℕ) (f : Entry → Entry) : Type 0 where
@@ -235,10 +254,34 @@ directory-stays path f k es d n l =
         let o : liveAt path e ≡ false = is-false (liveAt path e) (λ a. not-both (eqList path d) (ap (λ q. eqList q d) (sym (liveAt-says path e a .1) ∙ p) ∙ eqList-refl d) n) in
         directory-same d e (f e) (k .others e o) ∙ t
 
+-- where all directories are live, the nearest is
+pub all-nearest : (es : List Entry) (p : List ℕ) → DirectoriesLive es p → nearestLive es (leading p) ≡ true
+unfolding nearestLive
+all-nearest es p h = go (above p)
+  where
+    go : Above p → nearestLive es (leading p) ≡ true
+    go (top e) = rw e
+    go (under d e) = ap (nearestLive es) e ∙ nearest-last es (leading d) d ∙ all-at (λ q. directoryLive es q ≡ true) (leading d) d [] (rw e at h)
+
 -- the path is no directory of a live entry that is not below it
 not-above : (path : List ℕ) (e : Entry) → (isLive e && isBelow path (e .path)) ≡ false → isLive e ≡ true → All (λ d. eqList path d ≡ false) (leading (e .path))
 not-above path e h a =
     none-passes (eqList path) (leading (e .path)) (sym (below-leading path (e .path)) ∙ sym (ap (λ t. t && isBelow path (e .path)) a) ∙ h)
+
+-- the directories of a live entry that stays one, or of the one that is taken away, are live afterwards
+directories-stay : (path : List ℕ) (f : Entry → Entry) (es : List Entry) → TakesAway path f → (e : Entry) → isLive e ≡ true
+    → (isLive e && isBelow path (e .path)) ≡ false → DirectoriesLive es (e .path) → DirectoriesLive (map f es) (e .path)
+directories-stay path f es k e l b q =
+    all-weaken _ _ (λ d r. directory-stays path f k es d (r .0) (r .1)) (leading (e .path)) (all-and _ _ (leading (e .path)) (not-above path e b l) q)
+
+-- so the nearest directory of the entry that was taken away is still live
+pub nearest-stays : (f : Entry → Entry) (pre : List Entry) (e : Entry) (post : List Entry) → TakesAway (e .path) f → isLive e ≡ true
+    → anyBelow (e .path) (pre ++ (e ∷ post)) ≡ false → pathsSound (pre ++ (e ∷ post)) ≡ true → nearestLive (map f (pre ++ (e ∷ post))) (leading (e .path)) ≡ true
+unfolding anyBelow
+nearest-stays f pre e post k l b h =
+    let es : List Entry = pre ++ (e ∷ post) in
+    all-nearest (map f es) (e .path)
+    (directories-stay (e .path) f es k e l (all-at _ pre e post (none-passes _ es b)) (all-at _ pre e post (paths-says es h .directories) l))
 
 pub paths-delete : (path : List ℕ) (f : Entry → Entry) (es : List Entry) → TakesAway path f → anyBelow path es ≡ false → pathsSound es ≡ true
     → pathsSound (map f es) ≡ true
@@ -257,5 +300,4 @@ paths-delete path f es k b h =
         → DirectoriesLive (map f es) (f e .path)
     one e q a =
         let l = still-live path f k e a in
-        subst (DirectoriesLive (map f es)) (sym (still path f k e a .path))
-        (all-weaken _ _ (λ d r. directory-stays path f k es d (r .0) (r .1)) (leading (e .path)) (all-and _ _ (leading (e .path)) (not-above path e (q .0) l) (q .1 l)))
+        subst (DirectoriesLive (map f es)) (sym (still path f k e a .path)) (directories-stay path f es k e l (q .0) (q .1 l))

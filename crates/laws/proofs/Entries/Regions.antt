@@ -17,9 +17,8 @@ use Rattle.rules.specs.Index.{Entry, fileType, typeFile, typeDirectory, typeUnu
 use Rattle.rules.specs.Regions.{holds, blocksOf, withinData, fileRegionGood, regionGood, apart, regionsSound, busy, runFree}
 use Rattle.rules.specs.Regions.Laws.{holds-says, apart-back, apart-before, apart-behind, none-apart, run-says}
 use Rattle.rules.specs.Index.Walk.{pick-both}
-use Rattle.rules.specs.Paths.{isLive}
-use Rattle.rules.specs.Writing.{deletedKind, isDeleted, undeleted, leastEnd}
-use Rattle.laws.proofs.Entries.EntryKinds.{deleted-alike}
+use Rattle.rules.specs.Paths.{isLive, isDeleted}
+use Rattle.rules.specs.Writing.{undeleted, leastEnd}
 use Rattle.laws.proofs.Lists.Every.{not-both, and-map, or-map, or-left, pick-map, all-weaken, all-of, all-and, all-each, all-only, pairs-only, all-says, all-holds, two-says, two-holds, none-passes, every-map, every-ext, two-map, two-ext, le-largest, largest-le}
 use Rattle.laws.proofs.Lists.Perms.{perm-every, perm-two}
 
@@ -276,13 +275,6 @@ sound-map g f s es =
 -- the same kind and region: slots, stamps and paths do not matter
 pub same-region : (e f : Entry) → f .kind ≡ e .kind → f .start ≡ e .start → f .end ≡ e .end → f .length ≡ e .length → SameRegion e f
 same-region e f k s n l = record { file = ap fileType k; unusable = ap (λ t. eqb t typeUnusable) k; start = s; end = n; length = l }
-
--- a live entry and what it is when deleted
-pub deleted-region : (e f : Entry) → isLive e ≡ true → f .kind ≡ deletedKind (e .kind) → f .start ≡ e .start → f .end ≡ e .end → f .length ≡ e .length → SameRegion e f
-unfolding isLive
-deleted-region e f h k s n l =
-    let q = deleted-alike (e .kind) h in
-    record { file = ap fileType k ∙ q .0; unusable = ap (λ t. eqb t typeUnusable) k ∙ q .1; start = s; end = n; length = l }
 
 -- ---- without the deleted entries
 trim-good : (g : Geometry) (n : ℕ) (e : Entry) → e .end ≤ n → regionGood g e ≡ true → regionGood (trimData g n) e ≡ true

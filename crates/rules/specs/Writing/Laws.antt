@@ -5,17 +5,18 @@ use mathlib.Core.Bool.{true, false, not}
 use mathlib.Core.List.{List, []}
 use mathlib.Core.Option.{none, some}
 use lib.ListN.{length}
+use lib.Dec.{leb}
 use lib.IntN.{ℤ}
-use Rattle.rules.specs.Lists.{isSome}
+use Rattle.rules.specs.Lists.{only, first, isSome}
 use Rattle.rules.specs.SuperBlock.{Geometry, lengthGood, fieldOf, geometryGood, trimData, restamp, putSizes, writable}
 use Rattle.rules.specs.Names.{pathGood, newPathGood, volumeNameGood, leading}
 use Rattle.rules.specs.Index.{Entry, slotAt}
-use Rattle.rules.specs.Paths.{lookup, anyBelow}
+use Rattle.rules.specs.Paths.{isDeleted, deletedAt, lookup, anyBelow}
 use Rattle.rules.specs.Refusals.{refused, accepted, Volume, entries, judge}
 use Rattle.rules.specs.Refusals.Laws.{need-true, need-false, found-none, found-some}
 use Rattle.rules.specs.Outcome.{done}
 use Rattle.rules.specs.Outcome.Laws.{denied, conclude-refused, conclude-accepted, volume-refused, volume-denied, volume-done}
-use Rattle.rules.specs.Writing.{Written, New, formatOf, freshGeometry, formatted, createOf, nearestLive, newSlots, newBlocks, Place, placeRun, placeFile, siteOf, created, deleteOf, deleted, reclaimOf, isDeleted, undeleted, leastEnd, cleared}
+use Rattle.rules.specs.Writing.{Written, New, formatOf, freshGeometry, formatted, createOf, nearestLive, newSlots, newBlocks, Place, placeRun, placeFile, siteOf, created, deleteOf, deleted, restoreOf, restored, reclaimOf, undeleted, leastEnd, cleared}
 
 abbrev pub refusedWrite : List ℕ → ℕ → Written
 refusedWrite s n = denied tt s [] n
@@ -58,6 +59,10 @@ module _ (s : List ℕ) (n : ℕ) (bad : judge s ≡ refused n) where
   unfolding deleteOf
   delete-refused path stamp = volume-refused tt s [] _ n bad
 
+  pub restore-refused : (path : List ℕ) (stamp : ℤ) → restoreOf s path stamp ≡ refusedWrite s n
+  unfolding restoreOf
+  restore-refused path stamp = volume-refused tt s [] _ n bad
+
   pub reclaim-refused : (stamp : ℤ) → reclaimOf s stamp ≡ refusedWrite s n
   unfolding reclaimOf
   reclaim-refused stamp = volume-refused tt s [] _ n bad
@@ -72,6 +77,10 @@ module _ (s : List ℕ) (v : Volume) (opens : judge s ≡ accepted v) where
     pub delete-later : (path : List ℕ) (stamp : ℤ) → deleteOf s path stamp ≡ refusedWrite s 9
     unfolding deleteOf
     delete-later path stamp = volume-denied tt s [] _ v 9 opens (need-false 9 _ later)
+
+    pub restore-later : (path : List ℕ) (stamp : ℤ) → restoreOf s path stamp ≡ refusedWrite s 9
+    unfolding restoreOf
+    restore-later path stamp = volume-denied tt s [] _ v 9 opens (need-false 9 _ later)
 
     pub reclaim-later : (stamp : ℤ) → reclaimOf s stamp ≡ refusedWrite s 9
     unfolding reclaimOf
@@ -138,6 +147,41 @@ module _ (s : List ℕ) (v : Volume) (opens : judge s ≡ accepted v) where
           pub delete-done : anyBelow path (entries v) ≡ false → deleteOf s path stamp ≡ wrote (deleted s (slotAt s (v .geometry) (e .slot)) e stamp)
           unfolding deleteOf
           delete-done b = volume-done tt s [] _ v _ opens (need-true 9 _ may ∙ need-true 10 _ p ∙ found-some 11 _ f ∙ need-true 14 _ (rw b))
+
+      pub restore-name : pathGood path ≡ false → restoreOf s path stamp ≡ refusedWrite s 10
+      unfolding restoreOf
+      restore-name p = volume-denied tt s [] _ v 10 opens (need-true 9 _ may ∙ need-false 10 _ p)
+
+      module _ (p : pathGood path ≡ true) where
+        pub restore-none : first (deletedAt path) (entries v) ≡ none → restoreOf s path stamp ≡ refusedWrite s 11
+        unfolding restoreOf
+        restore-none f = volume-denied tt s [] _ v 11 opens (need-true 9 _ may ∙ need-true 10 _ p ∙ found-none 11 _ f)
+
+        module _ (e : Entry) (f : first (deletedAt path) (entries v) ≡ some e) where
+          pub restore-live : isSome (lookup path (entries v)) ≡ true → restoreOf s path stamp ≡ refusedWrite s 12
+          unfolding restoreOf
+          restore-live l = volume-denied tt s [] _ v 12 opens (need-true 9 _ may ∙ need-true 10 _ p ∙ found-some 11 _ f ∙ need-false 12 _ (rw l))
+
+          module _ (l : isSome (lookup path (entries v)) ≡ false) where
+            pub restore-orphan : nearestLive (entries v) (leading path) ≡ false → restoreOf s path stamp ≡ refusedWrite s 13
+            unfolding restoreOf
+            restore-orphan d =
+                volume-denied tt s [] _ v 13 opens
+                (need-true 9 _ may ∙ need-true 10 _ p ∙ found-some 11 _ f ∙ need-true 12 _ (rw l) ∙ need-false 13 _ d)
+
+            module _ (d : nearestLive (entries v) (leading path) ≡ true) where
+              pub restore-several : leb (length (only (deletedAt path) (entries v))) 1 ≡ false → restoreOf s path stamp ≡ refusedWrite s 19
+              unfolding restoreOf
+              restore-several n =
+                  volume-denied tt s [] _ v 19 opens
+                  (need-true 9 _ may ∙ need-true 10 _ p ∙ found-some 11 _ f ∙ need-true 12 _ (rw l) ∙ need-true 13 _ d ∙ need-false 19 _ n)
+
+              pub restore-done : leb (length (only (deletedAt path) (entries v))) 1 ≡ true
+                  → restoreOf s path stamp ≡ wrote (restored s (slotAt s (v .geometry) (e .slot)) e stamp)
+              unfolding restoreOf
+              restore-done n =
+                  volume-done tt s [] _ v _ opens
+                  (need-true 9 _ may ∙ need-true 10 _ p ∙ found-some 11 _ f ∙ need-true 12 _ (rw l) ∙ need-true 13 _ d ∙ need-true 19 _ n)
 
     pub reclaim-done : (stamp : ℤ)
         → let g : Geometry = restamp (v .geometry) (trimData (v .geometry) (leastEnd (undeleted (entries v)))) stamp in
