@@ -5,3 +5,4 @@ pub mod Retype
 pub mod Delete
 pub mod Restore
 pub mod Reclaim
+pub mod Back

@@ -7,7 +7,7 @@ use native.Mathlib.Omega.{arith}
 use lib.ListN.{length}
 use lib.IntN.{ℤ}
 use Rattle.rules.specs.Lists.{only}
-use Rattle.rules.specs.SuperBlock.{Geometry, blockLength, dataEnd, trimData, withData, restamp, putSizes}
+use Rattle.rules.specs.SuperBlock.{Geometry, blockLength, dataEnd, trimData, withData, withStamp, restamp, putSizes}
 use Rattle.rules.specs.SuperBlock.Laws.{GoodGeometry, SameSealed, same-self, same-trim, same-restamp, asStored, stored-block, stored-index}
 use Rattle.rules.specs.Index.{Entry, itemsOf}
 use Rattle.rules.specs.Regions.{regionsSound}
@@ -136,6 +136,26 @@ module _ (s : List ℕ) (v : Volume) (stamp : ℤ) (o : Opens s v) where
   left : Left image (blockLength g) (only (λ k. k .live) (sight s v)) (unusables v)
   unfolding volume
   left = record { volume = volume; opens = opens-judge image volume opens; blocks = block; agree = perm-of _ _ keeps; unusable = perm-of _ _ unusable }
+
+-- the volume that opens then has the entries that are not deleted, and may be written where the old one may
+pub record Reopens (t : List ℕ) (v : Volume) : Type 0 where
+  pub volume : Volume
+  pub opens : judge t ≡ accepted volume
+  pub sealed : SameSealed (volume .geometry) (v .geometry)
+  pub entries-are : entries volume ≡ undeleted (entries v)
+
+pub reclaim-reopens : (s : List ℕ) (v : Volume) (stamp : ℤ) → judge s ≡ accepted v → reclaimOf s stamp .refusal ≡ 0 → Reopens (reclaimOf s stamp .image) v
+unfolding image begun volume asStored withStamp
+reclaim-reopens s v stamp o z =
+    let e = judge-opens s v o in
+    let same = same s v stamp e in
+    rw (reclaim-image s v stamp o z)
+    (record {
+      volume = volume s v stamp e;
+      opens = opens-judge (image s v stamp e) (volume s v stamp e) (opens s v stamp e);
+      sealed = record { version-same = same .version-same; total-same = same .total-same; reserved-same = same .reserved-same; field-same = same .field-same };
+      entries-are = cleared-entries isDeleted (v .items);
+    })
 
 pub reclaim-left : AfterReclaim
 unfolding image begun

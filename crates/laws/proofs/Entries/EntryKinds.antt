@@ -83,6 +83,10 @@ pub deleted-gone : (t : ℕ) → liveType (deletedKind t) ≡ false
 unfolding liveType deletedKind
 deleted-gone t = pick-both (λ (u : ℕ). liveType u ≡ false) (fileType t) typeDeletedFile typeDeletedDirectory refl refl
 
+pub deleted-is : (t : ℕ) → deletedType (deletedKind t) ≡ true
+unfolding deletedType deletedKind
+deleted-is t = pick-both (λ (u : ℕ). deletedType u ≡ true) (fileType t) typeDeletedFile typeDeletedDirectory refl refl
+
 pub live-back : (t : ℕ) → liveType (liveKind t) ≡ true
 unfolding liveType liveKind
 live-back t = pick-both (λ (u : ℕ). liveType u ≡ true) (fileType t) typeFile typeDirectory refl refl

@@ -207,7 +207,7 @@ pub deletedAt-holds : (p : List ℕ) (e : Entry) → isDeleted e ≡ true → e 
 unfolding deletedAt
 deletedAt-holds p e a b = and-both (isDeleted e) (eqList (e .path) p) a (ap (λ q. eqList q p) b ∙ eqList-refl p)
 
-live-not-deleted : (p : List ℕ) (e : Entry) → isLive e ≡ true → not (deletedAt p e) ≡ true
+pub live-not-deleted : (p : List ℕ) (e : Entry) → isLive e ≡ true → not (deletedAt p e) ≡ true
 unfolding deletedAt
 live-not-deleted p e a = ap not (and-left (isDeleted e) (eqList (e .path) p) (not-true (isDeleted e) (live-kept e a)))
 
@@ -275,13 +275,14 @@ directories-stay path f es k e l b q =
     all-weaken _ _ (λ d r. directory-stays path f k es d (r .0) (r .1)) (leading (e .path)) (all-and _ _ (leading (e .path)) (not-above path e b l) q)
 
 -- so the nearest directory of the entry that was taken away is still live
-pub nearest-stays : (f : Entry → Entry) (pre : List Entry) (e : Entry) (post : List Entry) → TakesAway (e .path) f → isLive e ≡ true
-    → anyBelow (e .path) (pre ++ (e ∷ post)) ≡ false → pathsSound (pre ++ (e ∷ post)) ≡ true → nearestLive (map f (pre ++ (e ∷ post))) (leading (e .path)) ≡ true
+pub nearest-stays : (path : List ℕ) (f : Entry → Entry) (pre : List Entry) (e : Entry) (post : List Entry) → TakesAway path f → isLive e ≡ true → e .path ≡ path
+    → anyBelow path (pre ++ (e ∷ post)) ≡ false → pathsSound (pre ++ (e ∷ post)) ≡ true → nearestLive (map f (pre ++ (e ∷ post))) (leading path) ≡ true
 unfolding anyBelow
-nearest-stays f pre e post k l b h =
+nearest-stays path f pre e post k l is b h =
     let es : List Entry = pre ++ (e ∷ post) in
-    all-nearest (map f es) (e .path)
-    (directories-stay (e .path) f es k e l (all-at _ pre e post (none-passes _ es b)) (all-at _ pre e post (paths-says es h .directories) l))
+    all-nearest (map f es) path
+    (subst (DirectoriesLive (map f es)) is
+    (directories-stay path f es k e l (all-at _ pre e post (none-passes _ es b)) (all-at _ pre e post (paths-says es h .directories) l)))
 
 pub paths-delete : (path : List ℕ) (f : Entry → Entry) (es : List Entry) → TakesAway path f → anyBelow path es ≡ false → pathsSound es ≡ true
     → pathsSound (map f es) ≡ true

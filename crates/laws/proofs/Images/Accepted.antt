@@ -29,12 +29,18 @@ module _ (s : List ℕ) (w : Written) (success : w .refusal ≡ 0) where
   passed-found (some y) n next p e = (y, refl, e)
 
 -- the image opens as v, and its version may be written
-pub passed-writable : (s : List ℕ) (v : Volume) (call : Volume → Verdict Written) → judge s ≡ accepted v → onWritable s call .refusal ≡ 0
-    → onWritable s call ≡ ending s (call v)
-unfolding onVolume
-passed-writable s v call o z =
-    let next : Volume → Verdict Written = λ u. need (writable (u .geometry)) 9 (call u) in
-    passed-need s (onWritable s call) z (writable (v .geometry)) 9 (call v) (omega arith) (ap (ending s) (then-next next o)) .1
+module _ (s : List ℕ) (v : Volume) (call : Volume → Verdict Written) (o : judge s ≡ accepted v) (z : onWritable s call .refusal ≡ 0) where
+  passed-nine : (writable (v .geometry) ≡ true) × (onWritable s call ≡ ending s (call v))
+  unfolding onVolume
+  passed-nine =
+      let next : Volume → Verdict Written = λ u. need (writable (u .geometry)) 9 (call u) in
+      passed-need s (onWritable s call) z (writable (v .geometry)) 9 (call v) (omega arith) (ap (ending s) (then-next next o))
+
+  pub passed-may : writable (v .geometry) ≡ true
+  passed-may = passed-nine .0
+
+  pub passed-writable : onWritable s call ≡ ending s (call v)
+  passed-writable = passed-nine .1
 
 -- what is left then
 pub passed-done : (s t : List ℕ) (w : Written) → w ≡ ending s (accepted (done tt t [])) → w .image ≡ t

@@ -1,26 +1,29 @@
 -- The items of an image after each write to its index: slots written anew, a run of another type and stamp, the index grown by a run.
-use Prim.Native.Nat.{ℕ, _+_, _*_, _≤_}
+use Prim.Native.Nat.{ℕ, _+_, _-_, _*_, _≤_}
 use mathlib.Core.Path.{_≡_, refl, sym, ap, ap₂, subst, _∙_}
 use mathlib.Core.Bool.{true}
 use mathlib.Core.List.{List, [], _∷_, _++_, map}
 use native.Mathlib.Omega.{arith}
-use lib.ListN.{length, drop, length-drop}
+use lib.ListN.{length, getD, drop, length-drop}
+use lib.Seq.{drop-drop}
 use lib.IntN.{ℤ}
-use Rattle.rules.specs.Fields.{splice}
+use Rattle.rules.specs.Fields.{splice, signedOf, stampIn}
+use Rattle.rules.specs.Fields.Laws.{le-drop}
 use Rattle.rules.specs.SuperBlock.{Geometry}
 use Rattle.rules.specs.SuperBlock.Laws.{GoodGeometry, storedStamp}
-use Rattle.rules.specs.Index.{Entry, Item, entry, itemsOf, innerSlots, slotAt, slotBytes, unusedBytes, runBytes, runType, fileType, retyped}
+use Rattle.rules.specs.Index.{Entry, Item, entry, itemsOf, innerSlots, slotAt, slotBytes, stampAt, unusedBytes, runBytes, runType, fileType, retyped}
 use Rattle.rules.specs.Index.Walk.{walkAll}
+use Rattle.rules.specs.Index.Items.{type-drop}
 use Rattle.rules.specs.Writing.{itemSlot}
 use Rattle.laws.proofs.Lists.Spans.{drop-splice, drop-splice-part}
 use Rattle.laws.proofs.Index.Items.{slotsIn, slotsIn-append, noFault, one-sound, one-slots}
 use Rattle.laws.proofs.Index.Walks.{slots-all, walk-replace}
 use Rattle.laws.proofs.Index.Slots.{slot-at, slot-same, identifier-at, inner-slots, items-walk}
-use Rattle.laws.proofs.Index.Places.{slot-there, place-within}
+use Rattle.laws.proofs.Index.Places.{slot-there, place-within, item-there}
 use Rattle.laws.proofs.Index.Unused.{unusedFrom, unusedFrom-slots, unusedFrom-sound, walk-unusedBytes, length-unusedBytes}
 use Rattle.laws.proofs.Index.Shift.{shiftItem}
 use Rattle.laws.proofs.Index.Runs.{Storable, stored, length-runBytes, walk-runBytes}
-use Rattle.laws.proofs.Index.Entries.{retypedEntry}
+use Rattle.laws.proofs.Index.Entries.{IsRun, retypedEntry, entry-run, run-kind, run-stamp}
 use Rattle.laws.proofs.Index.Retyped.{retyped-part}
 use Rattle.laws.proofs.Index.Writes.{walk-retyped, walk-grown}
 use Rattle.laws.proofs.Images.Areas.{slot-on, inner-end}
@@ -85,6 +88,31 @@ module _ (s : List ℕ) (g : Geometry) (good : GoodGeometry (length s) g) where
     unfolding itemSlot
     entry-slot = slot-there (innerSlots g) 1 (drop (slotAt s g 1) s) pre (entry e) post there
 
+    -- ---- its first slot lies in the image
+    at-entry : slotAt s g (e .slot) ≡ slotAt s g 1 + slotBytes * slotsIn pre
+    at-entry = ap (slotAt s g) entry-slot ∙ slot-on s g (slotsIn pre)
+
+    behind : slotsIn pre + 1 ≤ innerSlots g
+    behind = omega (arith, place-within (innerSlots g) 1 (drop (slotAt s g 1) s) pre (entry e) post there)
+
+    pub entry-room : slotAt s g (e .slot) + slotBytes ≤ length s
+    entry-room = omega (arith, at-entry, inner-end s g good, identifier-at s, behind)
+
+    -- ---- the type and the stamp of a run's entry, where they stand
+    module _ (run : runType (e .kind) ≡ true) where
+      stands : IsRun (innerSlots g - slotsIn pre) (1 + slotsIn pre) (drop (slotAt s g (e .slot)) s) e
+      stands =
+          let at : drop (slotBytes * slotsIn pre) (drop (slotAt s g 1) s) ≡ drop (slotAt s g (e .slot)) s =
+          drop-drop (slotBytes * slotsIn pre) (slotAt s g 1) s ∙ ap (λ (n : ℕ). drop n s) (sym at-entry) in
+          entry-run _ _ _ e (rw at at (item-there (innerSlots g) 1 (drop (slotAt s g 1) s) pre (entry e) post there)) run
+
+      pub kind-there : e .kind ≡ getD s (slotAt s g (e .slot)) 0
+      kind-there = run-kind _ _ _ e stands ∙ type-drop s (slotAt s g (e .slot))
+
+      pub stamp-there : e .stamp ≡ stampIn s (slotAt s g (e .slot) + stampAt)
+      unfolding stampIn
+      stamp-there = run-stamp _ _ _ e stands ∙ ap signedOf (le-drop 8 s (slotAt s g (e .slot)) stampAt)
+
     -- ---- the slots of a run made unused
     module _ (sound : noFault (pre ++ (entry e ∷ post))) where
       unused-full : length (unusedBytes (e .slots)) ≡ slotBytes * slotsIn (entry e ∷ [])
@@ -104,12 +132,6 @@ module _ (s : List ℕ) (g : Geometry) (good : GoodGeometry (length s) g) where
 
     -- ---- its run of another type and stamp
     module _ (kind : ℕ) (stamp : ℤ) where
-      at-entry : slotAt s g (e .slot) ≡ slotAt s g 1 + slotBytes * slotsIn pre
-      at-entry = ap (slotAt s g) entry-slot ∙ slot-on s g (slotsIn pre)
-
-      behind : slotsIn pre + 1 ≤ innerSlots g
-      behind = omega (arith, place-within (innerSlots g) 1 (drop (slotAt s g 1) s) pre (entry e) post there)
-
       pub retyped-inner : Inner s (retyped s (slotAt s g (e .slot)) kind stamp) g
       retyped-inner = inner-retyped s g (slotAt s g (e .slot)) (omega (arith, at-entry)) kind stamp (omega (arith, at-entry, inner-end s g good, behind))
 

@@ -73,6 +73,10 @@ module _ (left k : ℕ) (a : List ℕ) (e : Entry) (h : IsRun left k a e) where
   unfolding entryAt
   run-kind = rw (h .made)
 
+  pub run-stamp : e .stamp ≡ stampIn a stampAt
+  unfolding entryAt
+  run-stamp = rw (h .made)
+
   pub run-slots : e .slots ≡ 1 + byteAt a countAt
   unfolding entryAt runSlots
   run-slots = rw (h .made)

@@ -1,21 +1,25 @@
--- Another type and stamp written to a run's first slot: the rest of its entry is as it was. Deleting is a case of it.
+-- Another type and stamp written to a run's first slot: the rest of its entry is as it was, and the old ones written again give the old image.
 use Prim.Native.Nat.{ℕ, _+_, _-_, _*_, _≤_, _<_}
 use mathlib.Core.Path.{_≡_, sym, ap, _∙_}
+use mathlib.Core.Logic.{_⊎_, inl, inr}
 use mathlib.Core.Bool.{true}
 use mathlib.Core.List.{List, [], _∷_}
 use native.Mathlib.Omega.{arith}
-use lib.ListN.{length, take, drop}
+use native.Mathlib.Decide.{decLt, ℕ-discrete}
+use lib.ListN.{length, getD, take, drop}
+use lib.Seq.{ext-getD}
 use lib.IntN.{ℤ}
 use Rattle.rules.specs.Lists.{pick}
 use Rattle.rules.specs.Lists.Laws.{drop-take}
-use Rattle.rules.specs.Fields.{byteAt, le, splice, signedOf, stampIn, stampBytes}
-use Rattle.rules.specs.Fields.Laws.{length-splice, getD-splice-before, getD-splice-in, getD-splice-after, le-splice-in, le-splice-after}
+use Rattle.rules.specs.Fields.{byteAt, le, leBytes, splice, signedOf, stampIn, stampBytes}
+use Rattle.rules.specs.Fields.Laws.{length-splice, getD-splice-before, getD-splice-in, getD-splice-after, le-splice-in, le-splice-after, le-lt, leBytes-le}
+use Rattle.rules.specs.Fields.Signed.{bits-signed}
 use Rattle.rules.specs.SuperBlock.Laws.{storedStamp}
 use Rattle.rules.specs.Index.{Entry, entry, itemAt, entryAt, runSlots, nameField, nameAt, fileField, runType, fileType, slotBytes, countAt, stampAt, startAt, endAt, lengthAt, retyped}
 use Rattle.rules.specs.Index.Laws.{name-at-bounds}
 use Rattle.rules.specs.Index.Items.{item-run}
 use Rattle.laws.proofs.Lists.Spans.{SameBut, but-splice, but-wider, but-then, but-drop, drop-splice-part}
-use Rattle.laws.proofs.Index.Entries.{retypedEntry, entry-run, run-kind}
+use Rattle.laws.proofs.Index.Entries.{Bytes, retypedEntry, entry-run, run-kind}
 use Rattle.laws.proofs.Index.Runs.{length-stamp}
 
 -- ---- the write: ten bytes from the slot's start
@@ -38,6 +42,85 @@ retyped-part n s at kind stamp h =
     ap (λ (j : ℕ). drop n (splice t j (stampBytes stamp))) p
     ∙ drop-splice-part n t (at + stampAt) (stampBytes stamp) (omega (arith, typed-length s (n + at) kind stamp h))
     ∙ ap (λ (xs : List ℕ). splice xs (at + stampAt) (stampBytes stamp)) (drop-splice-part n s at (kind ∷ []) (omega arith))
+
+-- ---- its bytes, one by one
+module _ (s : List ℕ) (at kind : ℕ) (stamp : ℤ) (room : at + 10 ≤ length s) where
+  abbrev typed-at : List ℕ
+  typed-at = splice s at (kind ∷ [])
+
+  stamp-room : at + stampAt + length (stampBytes stamp) ≤ length typed-at
+  stamp-room = omega (arith, typed-length s at kind stamp room, length-stamp stamp)
+
+  byte-type : getD (retyped s at kind stamp) at 0 ≡ kind
+  unfolding retyped
+  byte-type =
+      getD-splice-before typed-at (at + stampAt) (stampBytes stamp) stamp-room at (omega arith)
+      ∙ sym (ap (λ (i : ℕ). getD typed-at i 0) (omega arith))
+      ∙ getD-splice-in s at (kind ∷ []) (omega arith) 0 (omega arith)
+
+  byte-stamp : (j : ℕ) → j < 8 → getD (retyped s at kind stamp) (at + stampAt + j) 0 ≡ getD (stampBytes stamp) j 0
+  unfolding retyped
+  byte-stamp j h = getD-splice-in typed-at (at + stampAt) (stampBytes stamp) stamp-room j (omega (arith, length-stamp stamp))
+
+  byte-typed : (i : ℕ) → (i ≡ at → ⊥) → getD typed-at i 0 ≡ getD s i 0
+  byte-typed i n = go (decLt i at)
+    where
+      go : Dec (i < at) → getD typed-at i 0 ≡ getD s i 0
+      go (yes l) = getD-splice-before s at (kind ∷ []) (omega arith) i l
+      go (no l) = getD-splice-after s at (kind ∷ []) (omega arith) i (omega (arith, n))
+
+  byte-else : (i : ℕ) → (i ≡ at → ⊥) → (i < at + stampAt) ⊎ (at + 10 ≤ i) → getD (retyped s at kind stamp) i 0 ≡ getD s i 0
+  unfolding retyped
+  byte-else i n (inl l) = getD-splice-before typed-at (at + stampAt) (stampBytes stamp) stamp-room i l ∙ byte-typed i n
+  byte-else i n (inr l) = getD-splice-after typed-at (at + stampAt) (stampBytes stamp) stamp-room i (omega (arith, length-stamp stamp)) ∙ byte-typed i n
+
+-- the type and the stamp that stood there, written over others
+module _ (s : List ℕ) (at : ℕ) (bytes : Bytes s) (room : at + 10 ≤ length s) where
+  old-stamp : (j : ℕ) → j < 8 → getD (stampBytes (stampIn s (at + stampAt))) j 0 ≡ getD s (at + stampAt + j) 0
+  unfolding stampBytes stampIn
+  old-stamp j h =
+      ap (λ (n : ℕ). getD (leBytes 8 n) j 0) (bits-signed (le 8 s (at + stampAt)) (le-lt 8 s (at + stampAt) bytes))
+      ∙ leBytes-le 8 s (at + stampAt) bytes j h
+
+  pub retyped-back : (kind : ℕ) (stamp : ℤ) → retyped (retyped s at kind stamp) at (getD s at 0) (stampIn s (at + stampAt)) ≡ s
+  retyped-back kind stamp = ext-getD 0 again s (first-long ∙ once-long) each
+    where
+      once : List ℕ
+      once = retyped s at kind stamp
+
+      old : ℤ
+      old = stampIn s (at + stampAt)
+
+      again : List ℕ
+      again = retyped once at (getD s at 0) old
+
+      once-long : length once ≡ length s
+      once-long = retyped-written s at kind stamp room .long
+
+      once-room : at + 10 ≤ length once
+      once-room = omega (arith, once-long)
+
+      first-long : length again ≡ length once
+      first-long = retyped-written once at (getD s at 0) old once-room .long
+
+      each : (i : ℕ) → i < length again → getD again i 0 ≡ getD s i 0
+      each i l = go (ℕ-discrete i at) (decLt i (at + stampAt)) (decLt i (at + 10))
+        where
+          else : (i ≡ at → ⊥) → (i < at + stampAt) ⊎ (at + 10 ≤ i) → getD again i 0 ≡ getD s i 0
+          else n o = byte-else once at (getD s at 0) old once-room i n o ∙ byte-else s at kind stamp room i n o
+
+          go : Dec (i ≡ at) → Dec (i < at + stampAt) → Dec (i < at + 10) → getD again i 0 ≡ getD s i 0
+          go (yes e) x y = ap (λ (k : ℕ). getD again k 0) e ∙ byte-type once at (getD s at 0) old once-room ∙ sym (ap (λ (k : ℕ). getD s k 0) e)
+          go (no n) (yes x) y = else n (inl x)
+          go (no n) (no x) (no y) = else n (inr (omega arith))
+          go (no n) (no x) (yes y) =
+              let j : ℕ = i - (at + stampAt) in
+              let e : i ≡ at + stampAt + j = omega arith in
+              let h : j < 8 = omega arith in
+              ap (λ (k : ℕ). getD again k 0) e
+              ∙ byte-stamp once at (getD s at 0) old once-room j h
+              ∙ old-stamp j h
+              ∙ sym (ap (λ (k : ℕ). getD s k 0) e)
 
 -- ---- the bytes of the run, read field by field
 module _ (a : List ℕ) (kind : ℕ) (stamp : ℤ) (room : slotBytes ≤ length a) where

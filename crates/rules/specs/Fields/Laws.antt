@@ -131,6 +131,17 @@ le-leBytes (suc w) v h =
     let r : le w (leBytes w (v / 256)) 0 ≡ v / 256 = le-leBytes w (v / 256) (omega (arith, pow-step w)) in
     omega (arith, le-shift w (v % 256) (leBytes w (v / 256)))
 
+-- the bytes of what w bytes say are those bytes
+pub leBytes-le : (w : ℕ) (s : List ℕ) (at : ℕ) → ((i : ℕ) → getD s i 0 < 256) → (j : ℕ) → j < w → getD (leBytes w (le w s at)) j 0 ≡ getD s (at + j) 0
+unfolding le leBytes
+leBytes-le zero s at h j l = absurd (omega arith)
+leBytes-le (suc w) s at h zero l = simp add-zero (omega (arith, h at))
+leBytes-le (suc w) s at h (suc j) l =
+    let b : ℕ = getD s at 0 in
+    let q : (b + 256 * le w s (at + 1)) / 256 ≡ le w s (at + 1) = omega (arith, h at) in
+    let n : at + 1 + j ≡ at + suc j = omega arith in
+    ap (λ (v : ℕ). getD (leBytes w v) j 0) q ∙ leBytes-le w s (at + 1) h j (omega arith) ∙ ap (λ (i : ℕ). getD s i 0) n
+
 -- ---- turns of loops
 
 -- reading from the highest byte, at e, down: from o to o - 1

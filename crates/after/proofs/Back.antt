@@ -1,0 +1,178 @@
+-- Two calls, one after the other: a delete and a restore with the old stamp give the old image; after a reclaim there is nothing to restore.
+use Prim.Native.Nat.{ℕ, _+_, _≤_}
+use mathlib.Core.Path.{_≡_, refl, sym, ap, ap₂, subst, _∙_}
+use mathlib.Core.Bool.{Bool, true, false, not}
+use mathlib.Core.List.{List, _∷_, _++_, map}
+use mathlib.Core.Option.{Option, none, some}
+use native.Mathlib.Omega.{arith}
+use borrow.Author.Tests.{not-true}
+use lib.Dec.{leb}
+use lib.ListN.{length, getD}
+use lib.IntN.{ℤ}
+use Rattle.rules.specs.Lists.{pick, any, only, first, isSome, eqList}
+use Rattle.rules.specs.Lists.Laws.{clash, and-left}
+use Rattle.rules.specs.Fields.{stampIn}
+use Rattle.rules.specs.SuperBlock.{writable, version10}
+use Rattle.rules.specs.SuperBlock.Laws.{SameSealed, storedStamp}
+use Rattle.rules.specs.Names.{leading}
+use Rattle.rules.specs.Index.{Entry, entriesOf, slotAt, itemsOf, entry, stampAt, retyped}
+use Rattle.rules.specs.Paths.{isLive, isDeleted, liveAt, deletedAt, lookup, anyBelow, pathsSound}
+use Rattle.rules.specs.Paths.Laws.{any-first}
+use Rattle.rules.specs.Refusals.{accepted, Volume, entries, judge}
+use Rattle.rules.specs.Refusals.Laws.{Opens, judge-opens, opens-judge}
+use Rattle.rules.specs.Writing.{nearestLive, deletedKind, deleted, deleteOf, liveKind, restored, restoreOf, undeleted, reclaimOf}
+use Rattle.rules.specs.Writing.Laws.{refusedWrite, wrote, restore-none, restore-several, restore-done}
+use Rattle.after.specs.After.{DeletedRestored, ReclaimedRestored}
+use Rattle.laws.proofs.Lists.Parts.{some-same}
+use Rattle.laws.proofs.Lists.Every.{all-of, all-map, all-weaken, all-chosen, none-passes, none-first, first-at, any-at, one-more, all-split}
+use Rattle.laws.proofs.Index.Entries.{Bytes, retypedEntry}
+use Rattle.laws.proofs.Index.Slots.{slot-same}
+use Rattle.laws.proofs.Index.Places.{Found}
+use Rattle.laws.proofs.Index.Retyped.{retyped-back, retyped-written}
+use Rattle.laws.proofs.Entries.EntryKinds.{live-run, deleted-is, live-again, deleted-gone}
+use Rattle.laws.proofs.Entries.Paths.{deletedAt-holds, live-not-deleted, nearest-stays}
+use Rattle.laws.proofs.Entries.Retyping.{retype-by}
+use Rattle.laws.proofs.Entries.Deleting.{deleteAt, deletes, takes-away, delete-paths}
+use Rattle.laws.proofs.Images.Accepted.{passed-may}
+use Rattle.laws.proofs.Images.Indexes.{entry-room, kind-there, stamp-there}
+use Rattle.after.proofs.Retype.Left.{entries-before, entries-after, entries-map, changed, image, volume, opens}
+use Rattle.after.proofs.Delete.{DeletePassed, delete-passed, place, live, at-path, others}
+use Rattle.after.proofs.Reclaim.Left.{Reopens, reclaim-reopens}
+
+is-some : {A : Type 0} (o : Option A) → isSome o ≡ true → (x : A) × (o ≡ some x)
+unfolding isSome
+is-some none e = clash (sym e)
+is-some (some x) e = (x, refl)
+
+is-none : {A : Type 0} (o : Option A) → o ≡ none → isSome o ≡ false
+unfolding isSome
+is-none o e = rw e
+
+module _ (s : List ℕ) (v : Volume) (path : List ℕ) (stamp : ℤ) (bytes : Bytes s) (o : Opens s v) (d : DeletePassed s v path stamp) (may : writable (v .geometry) ≡ true) where
+  abbrev it : Entry
+  it = d .it
+
+  abbrev spot : Found (liveAt path) (v .items) it
+  spot = place s v path stamp o d
+
+  abbrev pre : List Entry
+  pre = entriesOf (spot .pre)
+
+  abbrev post : List Entry
+  post = entriesOf (spot .post)
+
+  -- ---- the image that the delete left
+  abbrev t : List ℕ
+  t = image s v o (liveAt path) deletedKind (deletes path) stamp it spot
+
+  abbrev w : Volume
+  w = volume s v o (liveAt path) deletedKind (deletes path) stamp it spot
+
+  abbrev gone : Entry
+  gone = changed s v o (liveAt path) deletedKind (deletes path) stamp it spot
+
+  reopens : judge t ≡ accepted w
+  reopens =
+      opens-judge t w
+      (opens s v o (liveAt path) deletedKind (deletes path) stamp it spot (others s v path stamp o d) (delete-paths path (storedStamp stamp) (entries v) (d .alone) (o .paths-sound)))
+
+  whole : entries v ≡ pre ++ (it ∷ post)
+  whole = entries-before s v o (liveAt path) deletedKind (deletes path) stamp it spot
+
+  left : entries w ≡ pre ++ (gone ∷ post)
+  left = entries-after s v o (liveAt path) deletedKind (deletes path) stamp it spot
+
+  mapped : entries w ≡ map (deleteAt path (storedStamp stamp)) (entries v)
+  mapped = entries-map s v o (liveAt path) deletedKind (deletes path) stamp it spot (others s v path stamp o d)
+
+  -- ---- what a restore meets in it
+  not-live : isSome (lookup path (entries w)) ≡ false
+  unfolding lookup liveAt isLive retypedEntry
+  not-live =
+      is-none _
+      (ap (first (liveAt path)) mapped
+      ∙ none-first (liveAt path) (map (deleteAt path (storedStamp stamp)) (entries v))
+      (all-map (λ e. liveAt path e ≡ false) (deleteAt path (storedStamp stamp)) (entries v)
+      (all-of _ (λ e. retype-by (liveAt path) deletedKind (storedStamp stamp) (λ x. liveAt path x ≡ false) e (λ h. and-left _ _ (deleted-gone (e .kind))) (λ h. h)) (entries v))))
+
+  directory : nearestLive (entries w) (leading path) ≡ true
+  directory =
+      ap (λ es. nearestLive es (leading path)) (mapped ∙ ap (map (deleteAt path (storedStamp stamp))) whole)
+      ∙ nearest-stays path (deleteAt path (storedStamp stamp)) pre it post (takes-away path (storedStamp stamp)) (live s v path stamp o d) (at-path s v path stamp o d)
+      (ap (anyBelow path) (sym whole) ∙ d .alone) (ap pathsSound (sym whole) ∙ o .paths-sound)
+
+  is-deleted : deletedAt path gone ≡ true
+  unfolding isDeleted retypedEntry
+  is-deleted = deletedAt-holds path gone (deleted-is (it .kind)) (at-path s v path stamp o d)
+
+  was-live : deletedAt path it ≡ false
+  was-live = not-true (deletedAt path it) (live-not-deleted path it (live s v path stamp o d))
+
+  count : leb (length (only (deletedAt path) (entries w))) 1 ≡ not (any (deletedAt path) (entries v))
+  count =
+      ap (λ es. leb (length (only (deletedAt path) es)) 1) left
+      ∙ one-more (deletedAt path) pre it gone post was-live is-deleted
+      ∙ ap (λ es. not (any (deletedAt path) es)) (sym whole)
+
+  -- ---- and what it writes
+  here : itemsOf s (v .geometry) ≡ spot .pre ++ (entry it ∷ spot .post)
+  here = sym (o .items-are) ∙ spot .split
+
+  abbrev at : ℕ
+  at = slotAt s (v .geometry) (it .slot)
+
+  room : at + 10 ≤ length s
+  room = omega (arith, entry-room s (v .geometry) (o .geometry-good) (spot .pre) it (spot .post) here)
+
+  kind-back : liveKind (deletedKind (it .kind)) ≡ getD s at 0
+  unfolding isLive
+  kind-back =
+      let l = live s v path stamp o d in
+      live-again (it .kind) l ∙ kind-there s (v .geometry) (o .geometry-good) (spot .pre) it (spot .post) here (live-run it l)
+
+  stamp-back : it .stamp ≡ stampIn s (at + stampAt)
+  stamp-back = stamp-there s (v .geometry) (o .geometry-good) (spot .pre) it (spot .post) here (live-run it (live s v path stamp o d))
+
+  old-bytes : restored t (slotAt t (v .geometry) (gone .slot)) gone (it .stamp) ≡ s
+  unfolding restored retypedEntry
+  old-bytes =
+      let same : slotAt t (v .geometry) (it .slot) ≡ at = slot-same s t (v .geometry) (v .geometry) (retyped-written s at (deletedKind (it .kind)) stamp room .long) refl (it .slot) in
+      ap (λ (n : ℕ). retyped t n (liveKind (deletedKind (it .kind))) (it .stamp)) same
+      ∙ ap₂ (retyped t at) kind-back stamp-back
+      ∙ retyped-back s at bytes room (deletedKind (it .kind)) stamp
+
+  back : (b : Bool) → any (deletedAt path) (entries v) ≡ b → restoreOf t path (it .stamp) ≡ pick b (refusedWrite t 19) (wrote s)
+  unfolding pick
+  back true e =
+      let f = is-some (first (deletedAt path) (entries w)) (sym (any-first (deletedAt path) (entries w)) ∙ ap (any (deletedAt path)) left ∙ any-at (deletedAt path) pre gone post is-deleted) in
+      restore-several t w reopens may path (it .stamp) (d .named) (f .0) (f .1) not-live directory (count ∙ ap not e)
+  back false e =
+      let none-here = all-split _ pre (it ∷ post) (none-passes (deletedAt path) (pre ++ (it ∷ post)) (rw whole at e)) in
+      restore-done t w reopens may path (it .stamp) (d .named) gone (ap (first (deletedAt path)) left ∙ first-at (deletedAt path) pre gone post (none-here .0) is-deleted) not-live directory (count ∙ ap not e)
+      ∙ ap wrote old-bytes
+
+pub deleted-restored : DeletedRestored
+unfolding deleteOf deleted
+deleted-restored s v path e stamp bytes o f z =
+    let d = delete-passed s v path stamp o z in
+    let t : List ℕ = deleteOf s path stamp .image in
+    subst (λ (x : Entry). restoreOf t path (x .stamp) ≡ pick (any (deletedAt path) (entries v)) (refusedWrite t 19) (wrote s))
+    (some-same (d .it) e (sym (d .found) ∙ f))
+    (rw (d .image) (back s v path stamp bytes (judge-opens s v o) d (passed-may s v _ o z) (any (deletedAt path) (entries v)) refl))
+
+-- ---- after a reclaim
+none-deleted : (path : List ℕ) (es : List Entry) → first (deletedAt path) (undeleted es) ≡ none
+unfolding deletedAt
+none-deleted path es =
+    none-first (deletedAt path) (undeleted es)
+    (all-weaken _ _ (λ e h. and-left (isDeleted e) (eqList (e .path) path) (not-true (isDeleted e) h)) (undeleted es) (all-chosen (λ e. not (isDeleted e)) es))
+
+still-may : (s : List ℕ) (v : Volume) (stamp : ℤ) → judge s ≡ accepted v → reclaimOf s stamp .refusal ≡ 0 → (w : Volume) → SameSealed (w .geometry) (v .geometry) → writable (w .geometry) ≡ true
+unfolding reclaimOf writable
+still-may s v stamp o z w same = ap (λ (n : ℕ). leb n version10) (same .version-same) ∙ passed-may s v _ o z
+
+pub reclaimed-restored : ReclaimedRestored
+reclaimed-restored s v path first second o z p =
+    let r = reclaim-reopens s v first o z in
+    restore-none (reclaimOf s first .image) (r .volume) (r .opens) (still-may s v first o z (r .volume) (r .sealed)) path second p
+    (rw (r .entries-are) (none-deleted path (entries v)))
