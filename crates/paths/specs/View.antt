@@ -2,19 +2,24 @@
 use Prim.Native.Nat.{ℕ}
 use mathlib.Core.Path.{_≡_, refl, sym, ap, _∙_}
 use mathlib.Core.Bool.{Bool, true, false, _&&_}
-use mathlib.Core.List.{List}
+use mathlib.Core.List.{List, [], _∷_}
 use mathlib.Core.Option.{Option, none, some}
 use lib.Dec.{leb}
-use Rattle.rules.specs.Lists.{isSome}
+use Rattle.rules.specs.Lists.{isSome, only, first}
+use Rattle.rules.specs.Lists.Laws.{first-chosen, first-unchosen}
 use Rattle.rules.specs.Names.{isBelow}
 use Rattle.rules.specs.Index.{Entry}
-use Rattle.rules.specs.Paths.{isLive, liveAt, isDirectoryAt}
+use Rattle.rules.specs.Paths.{isLive, liveAt, deletedAt, isDirectoryAt}
 use Rattle.slots.specs.declared.Head.{Head}
 use Rattle.slots.specs.View.{headView, HeadIn}
 use Rattle.paths.specs.declared.Search.{Search}
 use Rattle.paths.specs.declared.Search.the-variants.{Nothing, Entry as found}
+use Rattle.index.specs.declared.Cursor.{Cursor}
+use Rattle.index.specs.Steps.{Walks, entriesFrom}
+use Rattle.paths.specs.declared.Hit.{Hit}
+use Rattle.paths.specs.declared.Hit.the-variants.{Nothing as noHit, Entry as hitAt}
 use Rattle.paths.specs.declared.Sought.{Sought}
-use Rattle.paths.specs.declared.Sought.the-variants.{Path as byPath, Directory as byDirectory, Below as byBelow, From as bySlot}
+use Rattle.paths.specs.declared.Sought.the-variants.{Path as byPath, Deleted as byDeleted, Directory as byDirectory, Below as byBelow, From as bySlot}
 
 -- ---- what is looked for
 unfoldable pub liveBelow : List ℕ → Entry → Bool
@@ -22,6 +27,7 @@ liveBelow p e = isLive e && isBelow p (e .path)
 
 unfoldable pub passes : Sought → List ℕ → Entry → Bool
 passes byPath p e = liveAt p e
+passes byDeleted p e = deletedAt p e
 passes byDirectory p e = isDirectoryAt p e
 passes byBelow p e = liveBelow p e
 passes (bySlot k) p e = isLive e && leb (k .0) (e .slot)
@@ -57,6 +63,37 @@ module _ (s : List ℕ) (o : Option Entry) (r : Search) (told : Searched s o r) 
   pub searched-entry : (h : Head) → r ≡ found h → (o ≡ some (headView s h)) × HeadIn s h
   unfolding searchView Lies
   searched-entry h e = (sym (told .view) ∙ ap (searchView s) e, rw e at (told .lies))
+
+-- ---- the same, and what lies behind it
+pub record HitAt (s : List ℕ) (p : Entry → Bool) (es : List Entry) (h : Head) (rest : Cursor) : Type 0 where
+  pub chosen : only p es ≡ headView s h ∷ only p (entriesFrom s rest)
+  pub head : HeadIn s h
+  pub walks : Walks s rest
+
+unfoldable pub Hits : List ℕ → (Entry → Bool) → List Entry → Hit → Type 0
+Hits s p es noHit = only p es ≡ []
+Hits s p es (hitAt h rest) = HitAt s p es h rest
+
+module _ (s : List ℕ) (p : Entry → Bool) (es : List Entry) where
+  pub hits-none : only p es ≡ [] → Hits s p es noHit
+  unfolding Hits
+  hits-none e = e
+
+  pub hits-some : (h : Head) (rest : Cursor) → HitAt s p es h rest → Hits s p es (hitAt h rest)
+  unfolding Hits
+  hits-some h rest k = k
+
+  module _ (r : Hit) (told : Hits s p es r) where
+    pub hit-nothing : r ≡ noHit → first p es ≡ none
+    unfolding Hits
+    hit-nothing e = first-unchosen p es (rw e at told)
+
+    pub hit-entry : (h : Head) (rest : Cursor) → r ≡ hitAt h rest → HitAt s p es h rest
+    unfolding Hits
+    hit-entry h rest e = rw e at told
+
+  pub hit-first : (h : Head) (rest : Cursor) → HitAt s p es h rest → first p es ≡ some (headView s h)
+  hit-first h rest k = first-chosen p es (headView s h) (only p (entriesFrom s rest)) (k .chosen)
 
 unfoldable pub isFound : Search → Bool
 isFound Nothing = false

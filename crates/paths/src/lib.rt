@@ -8,17 +8,23 @@ use units::Slot;
 ghost use mathlib.Core.Path.{_≡_};
 ghost use mathlib.Core.Bool.{_&&_};
 ghost use lib.Dec.{leb};
-ghost use Rattle.rules.specs.Lists.{eqList, first};
+ghost use Rattle.rules.specs.Lists.{eqList, any, first};
 ghost use Rattle.rules.specs.Names.{isBelow};
 ghost use Rattle.rules.specs.Index.{liveType};
-ghost use Rattle.rules.specs.Paths.{liveAt, isDirectoryAt, lookup, nextLive, directoryLive, anyBelow};
+ghost use Rattle.rules.specs.Paths.{liveAt, deletedAt, isDirectoryAt, lookup, nextLive, directoryLive, anyBelow};
 ghost use Rattle.slots.specs.View.{headView, HeadIn};
 ghost use Rattle.index.specs.Steps.{Walks, entriesFrom};
-ghost use Rattle.paths.specs.View.{Searched, isFound, liveBelow, passes};
+ghost use Rattle.paths.specs.View.{Hits, Searched, isFound, liveBelow, passes};
 
 pub enum Search {
     Nothing,
     Entry(Head),
+}
+
+// The same, and where the walk goes on behind the entry.
+pub enum Hit {
+    Nothing,
+    Entry(Head, Cursor),
 }
 
 pub fn same_bytes(a: &[u8], b: &[u8]) -> bool
@@ -62,6 +68,17 @@ pub fn path_is(img: &[u8], h: Head, path: &[u8]) -> bool
     same_bytes(slots::path_of(img, h), path)
 }
 
+// Whether the entry is deleted and has this path.
+fn was_path(img: &[u8], h: Head, path: &[u8]) -> bool
+    requires { ⌜ HeadIn (now img) h ⌝ }
+    ensures { λ r. ⌜ r ≡ deletedAt (now (path .entry)) (headView (now (img .entry)) h) ⌝ }
+{
+    if !slots::is_deleted(h.kind) {
+        return false;
+    }
+    same_bytes(slots::path_of(img, h), path)
+}
+
 // Whether the entry is the live directory of this path.
 pub fn directory_is(img: &[u8], h: Head, path: &[u8]) -> bool
     requires { ⌜ HeadIn (now img) h ⌝ }
@@ -99,6 +116,7 @@ fn starts_from(h: Head, slot: Slot) -> bool
 // What an entry is looked for by; a path stands beside it.
 enum Sought {
     Path,
+    Deleted,
     Directory,
     Below,
     From(Slot),
@@ -110,6 +128,7 @@ fn passes(img: &[u8], h: Head, what: Sought, path: &[u8]) -> bool
 {
     match what {
         Sought::Path => path_is(img, h, path),
+        Sought::Deleted => was_path(img, h, path),
         Sought::Directory => directory_is(img, h, path),
         Sought::Below => lies_below(img, h, path),
         Sought::From(slot) => starts_from(h, slot),
@@ -117,21 +136,31 @@ fn passes(img: &[u8], h: Head, what: Sought, path: &[u8]) -> bool
 }
 
 // The first entry that passes.
-fn seek(img: &[u8], from: Cursor, what: Sought, path: &[u8]) -> Search
+fn next_hit(img: &[u8], from: Cursor, what: Sought, path: &[u8]) -> Hit
     requires { ⌜ Walks (now img) from ⌝ }
-    ensures { λ r. ⌜ Searched (now (img .entry)) (first (passes what (now (path .entry))) (entriesFrom (now (img .entry)) from)) r ⌝ }
+    ensures { λ r. ⌜ Hits (now (img .entry)) (passes what (now (path .entry))) (entriesFrom (now (img .entry)) from) r ⌝ }
 {
     let mut at = from;
     loop {
         match next_entry(img, at) {
-            Next::End => return Search::Nothing,
+            Next::End => return Hit::Nothing,
             Next::Found(h, rest) => {
                 if passes(img, h, what, path) {
-                    return Search::Entry(h);
+                    return Hit::Entry(h, rest);
                 }
                 at = rest;
             }
         }
+    }
+}
+
+fn seek(img: &[u8], from: Cursor, what: Sought, path: &[u8]) -> Search
+    requires { ⌜ Walks (now img) from ⌝ }
+    ensures { λ r. ⌜ Searched (now (img .entry)) (first (passes what (now (path .entry))) (entriesFrom (now (img .entry)) from)) r ⌝ }
+{
+    match next_hit(img, from, what, path) {
+        Hit::Nothing => Search::Nothing,
+        Hit::Entry(h, _) => Search::Entry(h),
     }
 }
 
@@ -150,6 +179,22 @@ pub fn lookup(img: &[u8], from: Cursor, path: &[u8]) -> Search
     ensures { λ r. ⌜ Searched (now (img .entry)) (lookup (now (path .entry)) (entriesFrom (now (img .entry)) from)) r ⌝ }
 {
     seek(img, from, Sought::Path, path)
+}
+
+// The first deleted entry of the path.
+pub fn first_deleted(img: &[u8], from: Cursor, path: &[u8]) -> Hit
+    requires { ⌜ Walks (now img) from ⌝ }
+    ensures { λ r. ⌜ Hits (now (img .entry)) (deletedAt (now (path .entry))) (entriesFrom (now (img .entry)) from) r ⌝ }
+{
+    next_hit(img, from, Sought::Deleted, path)
+}
+
+// Whether a deleted entry has this path.
+pub fn any_deleted(img: &[u8], from: Cursor, path: &[u8]) -> bool
+    requires { ⌜ Walks (now img) from ⌝ }
+    ensures { λ r. ⌜ r ≡ any (deletedAt (now (path .entry))) (entriesFrom (now (img .entry)) from) ⌝ }
+{
+    is_found(seek(img, from, Sought::Deleted, path))
 }
 
 // The live entry with the lowest first slot not below this one.

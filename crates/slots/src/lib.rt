@@ -9,7 +9,7 @@ ghost use Prim.Native.Nat.{_+_, _*_, _/_, _≤_, _<_};
 ghost use lib.ListN.{length, getD, drop};
 ghost use Rattle.rules.specs.Index.{fileType, runType, liveType, deletedType, strayType, nameAt, continuing, runSlots, nameField, fileField, entryAt};
 ghost use Rattle.rules.specs.Index.Items.{entryType, headOf};
-ghost use Rattle.rules.specs.Writing.{deletedKind};
+ghost use Rattle.rules.specs.Writing.{deletedKind, liveKind};
 ghost use Rattle.slots.specs.View.{headView, HeadIn};
 
 // ---- what a slot's first byte says
@@ -92,6 +92,16 @@ pub fn deleted_kind(kind: u8) -> u8
         return DELETED_FILE;
     }
     DELETED_DIRECTORY
+}
+
+// The type that an entry of this type has once it is restored.
+pub fn live_kind(kind: u8) -> u8
+    ensures { λ r. ⌜ r ≡ liveKind kind ⌝ }
+{
+    if is_file(kind) {
+        return FILE;
+    }
+    DIRECTORY
 }
 
 // A first byte that may not stand where it starts no entry.

@@ -1,48 +1,25 @@
 -- Kinds of entries: a live one and what it is when deleted, a deleted one and what it is when restored. Assumes nothing.
 use Prim.Native.Nat.{ℕ}
-use mathlib.Core.Path.{_≡_, refl, sym, subst}
+use mathlib.Core.Path.{_≡_, refl, sym}
 use mathlib.Core.Bool.{Bool, true, false, _||_, not}
 use lib.Dec.{eqb}
-use borrow.Author.Tests.{eqb-true, ne-eqb}
+use borrow.Author.Tests.{ne-eqb}
 use Rattle.rules.specs.Lists.{pick}
 use Rattle.rules.specs.Lists.Laws.{clash}
 use Rattle.rules.specs.Index.{Entry, fileType, directoryType, runType, liveType, deletedType, typeFile, typeDirectory, typeDeletedFile, typeDeletedDirectory, typeUnusable}
 use Rattle.rules.specs.Index.Walk.{pick-both}
 use Rattle.rules.specs.Paths.{isLive, isDeleted}
+use Rattle.rules.specs.Paths.Laws.{live-cases, run-cases, live-run as live-type, gone-run}
 use Rattle.rules.specs.Writing.{deletedKind, liveKind}
-
--- ---- what holds of each kind
-either : (P : Bool → Type 0) (a b : Bool) → (a || b) ≡ true → (a ≡ true → P true) → (b ≡ true → P true) → P true
-either P true b e f g = f refl
-either P false b e f g = g e
-
-two-cases : (a b : ℕ) (P : ℕ → Type 0) → P a → P b → (t : ℕ) → (eqb t a || eqb t b) ≡ true → P t
-two-cases a b P x y t h =
-    either (λ _. P t) (eqb t a) (eqb t b) h (λ e. subst P (sym (eqb-true t a e)) x) (λ e. subst P (sym (eqb-true t b e)) y)
-
-pub live-cases : (P : ℕ → Type 0) → P typeDirectory → P typeFile → (t : ℕ) → liveType t ≡ true → P t
-unfolding liveType
-live-cases P d f t h = two-cases typeDirectory typeFile P d f t h
-
-deleted-cases : (P : ℕ → Type 0) → P typeDeletedDirectory → P typeDeletedFile → (t : ℕ) → deletedType t ≡ true → P t
-unfolding deletedType
-deleted-cases P d f t h = two-cases typeDeletedDirectory typeDeletedFile P d f t h
-
-run-cases : (P : ℕ → Type 0) → P typeDirectory → P typeDeletedDirectory → P typeFile → P typeDeletedFile → (t : ℕ) → runType t ≡ true → P t
-unfolding runType directoryType fileType
-run-cases P d e f g t h =
-    either (λ _. P t) (directoryType t) (fileType t) h
-    (λ x. two-cases typeDirectory typeDeletedDirectory P d e t x)
-    (λ x. two-cases typeFile typeDeletedFile P f g t x)
 
 -- ---- live and deleted entries are runs', and a run's is one or the other
 pub live-run : (e : Entry) → isLive e ≡ true → runType (e .kind) ≡ true
-unfolding isLive runType directoryType fileType
-live-run e = live-cases (λ t. runType t ≡ true) refl refl (e .kind)
+unfolding isLive
+live-run e = live-type (e .kind)
 
 pub deleted-named : (e : Entry) → isDeleted e ≡ true → runType (e .kind) ≡ true
-unfolding isDeleted runType directoryType fileType
-deleted-named e = deleted-cases (λ t. runType t ≡ true) refl refl (e .kind)
+unfolding isDeleted
+deleted-named e = gone-run (e .kind)
 
 pub run-either : (e : Entry) → runType (e .kind) ≡ true → (isLive e || isDeleted e) ≡ true
 unfolding isLive isDeleted liveType deletedType

@@ -1,13 +1,13 @@
--- Laws of paths: an entry that is live has a name, and the judgement that paths differ as a search.
+-- Laws of paths: an entry that is live or deleted has a name, and the judgement that paths differ as a search.
 use Prim.Native.Nat.{ℕ}
-use mathlib.Core.Path.{_≡_, refl, sym, ap, _∙_}
+use mathlib.Core.Path.{_≡_, refl, sym, ap, subst, _∙_}
 use mathlib.Core.Bool.{Bool, true, false, _&&_, _||_, not}
 use mathlib.Core.List.{List, [], _∷_}
 use lib.Dec.{eqb}
 use borrow.Author.Tests.{eqb-true}
 use Rattle.rules.specs.Lists.{all, any, first, firstIf, isSome, eqList}
 use Rattle.rules.specs.Lists.Laws.{clash, eqList-refl, eqList-true}
-use Rattle.rules.specs.Index.{Entry, liveType, runType, directoryType, fileType, typeDirectory, typeFile}
+use Rattle.rules.specs.Index.{Entry, liveType, deletedType, runType, directoryType, fileType, typeDirectory, typeFile, typeDeletedDirectory, typeDeletedFile}
 use Rattle.rules.specs.Paths.{isLive, liveAt, lookup, pathsDiffer}
 
 -- ---- types
@@ -15,14 +15,37 @@ pub directory-run : (t : ℕ) → t ≡ typeDirectory → runType t ≡ true
 unfolding runType directoryType fileType
 directory-run t e = rw e
 
-pub live-run : (t : ℕ) → liveType t ≡ true → runType t ≡ true
-unfolding liveType runType directoryType fileType
-live-run t e = by (eqb t typeDirectory) refl (eqb t typeFile) refl e
+-- what holds of both kinds, live or deleted
+two-cases : (a b : ℕ) (P : ℕ → Type 0) → P a → P b → (t : ℕ) → (eqb t a || eqb t b) ≡ true → P t
+two-cases a b P x y t h = go (eqb t a) refl h
   where
-    by : (d : Bool) → eqb t typeDirectory ≡ d → (f : Bool) → eqb t typeFile ≡ f → (d || f) ≡ true → runType t ≡ true
-    by true p f q u = directory-run t (eqb-true t typeDirectory p)
-    by false p true q u = rw (eqb-true t typeFile q)
-    by false p false q u = clash (sym u)
+    go : (c : Bool) → eqb t a ≡ c → (c || eqb t b) ≡ true → P t
+    go true e p = subst P (sym (eqb-true t a e)) x
+    go false e p = subst P (sym (eqb-true t b p)) y
+
+pub live-cases : (P : ℕ → Type 0) → P typeDirectory → P typeFile → (t : ℕ) → liveType t ≡ true → P t
+unfolding liveType
+live-cases P d f t h = two-cases typeDirectory typeFile P d f t h
+
+pub deleted-cases : (P : ℕ → Type 0) → P typeDeletedDirectory → P typeDeletedFile → (t : ℕ) → deletedType t ≡ true → P t
+unfolding deletedType
+deleted-cases P d f t h = two-cases typeDeletedDirectory typeDeletedFile P d f t h
+
+pub run-cases : (P : ℕ → Type 0) → P typeDirectory → P typeDeletedDirectory → P typeFile → P typeDeletedFile → (t : ℕ) → runType t ≡ true → P t
+unfolding runType directoryType fileType
+run-cases P d e f g t h = go (directoryType t) refl h
+  where
+    go : (c : Bool) → directoryType t ≡ c → (c || fileType t) ≡ true → P t
+    go true p q = two-cases typeDirectory typeDeletedDirectory P d e t p
+    go false p q = two-cases typeFile typeDeletedFile P f g t q
+
+pub live-run : (t : ℕ) → liveType t ≡ true → runType t ≡ true
+unfolding runType directoryType fileType
+live-run = live-cases (λ t. runType t ≡ true) refl refl
+
+pub gone-run : (t : ℕ) → deletedType t ≡ true → runType t ≡ true
+unfolding runType directoryType fileType
+gone-run = deleted-cases (λ t. runType t ≡ true) refl refl
 
 -- ---- two paths are compared either way round
 pub eqList-sym : (xs ys : List ℕ) → eqList xs ys ≡ eqList ys xs
