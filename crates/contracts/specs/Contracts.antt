@@ -10,7 +10,7 @@ use Rattle.rules.specs.Lists.{pick}
 use Rattle.rules.specs.Fields.{splice}
 use Rattle.rules.specs.Outcome.{Outcome, VolumeNumbers, EntryNumbers, ListedNumbers}
 use Rattle.rules.specs.Reading.{openOf, findOf, listOf, readOf}
-use Rattle.rules.specs.Writing.{Written, New, newFile, newDirectory, formatOf, createOf, deleteOf, reclaimOf}
+use Rattle.rules.specs.Writing.{Written, New, newFile, newDirectory, formatOf, createOf, deleteOf, restoreOf, reclaimOf}
 use Rattle.rules.specs.Listing.{listingOf}
 use Rattle.contracts.specs.declared.Volume.{Volume}
 use Rattle.contracts.specs.declared.Entry.{Entry}
@@ -102,6 +102,10 @@ CreatesDirectory s path stamp r t = Creates s newDirectory path stamp r t
 -- ---- sfs_delete: the path's live entry is marked deleted
 abbrev pub Deletes : List ℕ → List ℕ → ℤ → ℕ → List ℕ → Type 0
 Deletes s path stamp r t = writtenAs r t ≡ deleteOf s path stamp
+
+-- ---- sfs_restore: the path's deleted entry is live again
+abbrev pub Restores : List ℕ → List ℕ → ℤ → ℕ → List ℕ → Type 0
+Restores s path stamp r t = writtenAs r t ≡ restoreOf s path stamp
 
 -- ---- sfs_reclaim: what deleted entries hold is free
 abbrev pub Reclaims : List ℕ → ℤ → ℕ → List ℕ → Type 0

@@ -1,2 +1,1 @@
-pub mod Delete
 pub mod Reclaim

@@ -5,58 +5,51 @@ use index::Cursor;
 use index::Next;
 use judging::Judged;
 use paths::Search;
+use retyping::Retyping;
 use slots::Head;
-use units::Offset;
 ghost use mathlib.Core.Path.{_≡_};
 ghost use Rattle.rules.specs.Fields.{signedOf};
 ghost use Rattle.rules.specs.SuperBlock.{Geometry as Sizes};
 ghost use Rattle.rules.specs.Index.{slotAt};
 ghost use Rattle.rules.specs.Paths.{isDeleted};
-ghost use Rattle.rules.specs.Writing.{cleared};
+ghost use Rattle.rules.specs.Writing.{deleteOf, cleared};
 ghost use Rattle.contracts.specs.Contracts.{Deletes, Reclaims};
 ghost use Rattle.geometry.specs.View.{geometryView};
 ghost use Rattle.index.specs.Steps.{Walks, entriesFrom};
 ghost use Rattle.slots.specs.View.{HeadIn};
 ghost use Rattle.judging.specs.View.{Opened};
-ghost use Rattle.erasing.specs.Delete.{DeletePlanned};
+ghost use Rattle.retyping.specs.Planned.{Planned};
 ghost use Rattle.erasing.specs.Reclaim.{headCleared, reclaimed};
 
 // ---- delete
 
-// What a delete comes to: a refusal, or an entry's first slot and its type.
-enum DeletePlan {
-    Refused(u8),
-    At(Offset, u8),
-}
-
-fn plan_entry(img: &[u8], g: Geometry, path: &[u8]) -> DeletePlan
+fn plan_entry(img: &[u8], g: Geometry, path: &[u8]) -> Retyping
     requires { ⌜ Opened (now img) g ⌝ }
-    ensures { λ r. ⌜ DeletePlanned (now (img .entry)) (now (path .entry)) r ⌝ }
+    ensures { λ r. ⌜ Planned (now (img .entry)) (deleteOf (now (img .entry)) (now (path .entry))) r ⌝ }
 {
     if !g.is_writable() {
-        return DeletePlan::Refused(9);
+        return Retyping::Refused(9);
     }
     if !names::path_good(path) {
-        return DeletePlan::Refused(10);
+        return Retyping::Refused(10);
     }
     let from = super_block::first_slot(img, g);
     match paths::lookup(img, from, path) {
-        Search::Nothing => DeletePlan::Refused(11),
+        Search::Nothing => Retyping::Refused(11),
         Search::Entry(h) => {
             if paths::any_below(img, from, path) {
-                return DeletePlan::Refused(14);
+                return Retyping::Refused(14);
             }
-            let start = units::index_start(img.len() as u64, g.index);
-            DeletePlan::At(h.slot.offset(start), h.kind)
+            retyping::at_slot(img, g, h.slot, slots::deleted_kind(h.kind))
         }
     }
 }
 
-fn plan_delete(img: &[u8], path: &[u8]) -> DeletePlan
-    ensures { λ r. ⌜ DeletePlanned (now (img .entry)) (now (path .entry)) r ⌝ }
+fn plan_delete(img: &[u8], path: &[u8]) -> Retyping
+    ensures { λ r. ⌜ Planned (now (img .entry)) (deleteOf (now (img .entry)) (now (path .entry))) r ⌝ }
 {
     match judging::judge(img) {
-        Judged::Refused(n) => DeletePlan::Refused(n),
+        Judged::Refused(n) => Retyping::Refused(n),
         Judged::Good(g) => plan_entry(img, g, path),
     }
 }
@@ -65,13 +58,8 @@ fn plan_delete(img: &[u8], path: &[u8]) -> DeletePlan
 pub fn delete(img: &mut [u8], path: &[u8], stamp: u64) -> u32
     ensures { λ r. ⌜ Deletes (now (img .entry)) (now (path .entry)) (signedOf stamp) r (now (img .exit)) ⌝ }
 {
-    match plan_delete(img, path) {
-        DeletePlan::Refused(n) => n as u32,
-        DeletePlan::At(at, kind) => {
-            runs::retype(img, at, slots::deleted_kind(kind), stamp);
-            0
-        }
-    }
+    let plan = plan_delete(img, path);
+    retyping::put(img, plan, stamp)
 }
 
 // ---- reclaim

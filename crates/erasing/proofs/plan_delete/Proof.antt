@@ -1,6 +1,6 @@
 use Rattle.rules.specs.Writing.Laws.{delete-refused}
 use Rattle.judging.specs.View.{refused-says, good-says}
-use Rattle.erasing.specs.Delete.{DeletePlanned}
+use Rattle.retyping.specs.Planned.{Planned}
 use borrow.Author.Needs.{needs}
 use Rattle.erasing.proofs.plan_delete.Statement.{statement}
 use Rattle.erasing.proofs.plan_delete.Tie as tie
@@ -18,7 +18,7 @@ plan-entry-requires : tie.Need-plan-entry-requires
 plan-entry-requires c κs = good-says _ _ (c .before .before .before .judge .ensures) _ (c .before .g .given .1)
 
 returns : tie.Need-returns
-unfolding DeletePlanned
+unfolding Planned
 returns c = delete-refused _ _ (refused-says _ _ (c .before .before .before .judge .ensures) _ (c .before .n .given .1)) _
 
 returns-2 : tie.Need-returns-2

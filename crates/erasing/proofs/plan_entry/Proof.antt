@@ -1,20 +1,20 @@
 use mathlib.Core.Path.{_≡_, sym, ap, _∙_}
 use mathlib.Core.Bool.{true}
 use mathlib.Core.Option.{some}
-use native.Mathlib.Omega.{arith}
 use denote.Ref.{now}
 use borrow.Author.Tests.{not-true, not-false}
 use Rattle.rules.specs.SuperBlock.{writable}
 use Rattle.rules.specs.Paths.{lookup, anyBelow}
 use Rattle.rules.specs.Names.{pathGood}
 use Rattle.rules.specs.Refusals.{Volume, entries}
-use Rattle.rules.specs.Writing.Laws.{delete-later, delete-name, delete-none, delete-full}
+use Rattle.rules.specs.Writing.{deleted}
+use Rattle.rules.specs.Writing.Laws.{delete-later, delete-name, delete-none, delete-full, delete-done}
 use Rattle.geometry.specs.View.{geometryView}
 use Rattle.slots.specs.View.{headView}
 use Rattle.index.specs.Steps.{Walks, entriesFrom}
 use Rattle.paths.specs.View.{searched-nothing, searched-entry}
 use Rattle.judging.specs.View.{volumeOf, opened-super, opened-walks, opened-entries}
-use Rattle.erasing.specs.Delete.{DeletePlanned, entry-within, entry-planned}
+use Rattle.retyping.specs.Planned.{Planned, as-kind, found-room}
 use borrow.Author.Needs.{needs}
 use Rattle.erasing.proofs.plan_entry.Statement.{statement}
 use Rattle.erasing.proofs.plan_entry.Tie as tie
@@ -59,14 +59,14 @@ is-writable-requires : tie.Need-is-writable-requires
 is-writable-requires c κs = search needs
 
 returns : tie.Need-returns
-unfolding DeletePlanned
+unfolding Planned
 returns c = delete-later _ _ (c .before .before .before .before .pre) (sym (c .before .is-writable .ensures) ∙ not-true _ (c .if1 .taken)) _
 
 path-good-requires : tie.Need-path-good-requires
 path-good-requires c κs = search needs
 
 returns-2 : tie.Need-returns-2
-unfolding DeletePlanned
+unfolding Planned
 returns-2 c z = let p = c .before .before in
     delete-name _ _ (first p .pre) (current p) _ z (sym (c .before .path-good .ensures) ∙ not-true _ (c .if2 .taken))
 
@@ -86,31 +86,31 @@ any-below-requires : tie.Need-any-below-requires
 any-below-requires c κs = walks (sought c)
 
 returns-3 : tie.Need-returns-3
-unfolding DeletePlanned
+unfolding Planned
 returns-3 c z = let k = c .before .before in
     let f = sought k in
     delete-full _ _ (begun f .pre) (current (f .before .before .before)) _ z (good (f .before)) _ (found k) (below (c .before) ∙ c .if3 .taken)
 
-index-start-requires : tie.Need-index-start-requires
-index-start-requires c κs = opened-super _ _ (begun (sought (passed c)) .pre) .good .index-fits
-
-offset-requires : tie.Need-offset-requires
-offset-requires c κs = let k = passed (c .before) in
+at-slot-requires : tie.Need-at-slot-requires
+unfolding lookup
+at-slot-requires c κs = let k = passed (c .before) in
     let x = begun (sought k) in
-    omega (arith, entry-within _ _ _ (x .pre) _ (found k) _ (c .index-start .ensures), opened-super _ _ (x .pre) .short)
+    (x .pre, found-room _ _ (x .pre) _ _ (found k))
 
 returns-4 : tie.Need-returns-4
-unfolding DeletePlanned
+unfolding Planned
 returns-4 c z = let f = c .before .before .before in
     delete-none _ _ (begun f .pre) (current (f .before .before .before)) _ z (good (f .before))
     (ap (lookup _) (sym (entries-are f)) ∙ searched-nothing _ _ _ (c .before .before .lookup .ensures) (c .enum-told .given .1))
 
 returns-5 : tie.Need-returns-5
+unfolding deleted headView
 returns-5 c = let e = c .before .before in
     let k = passed e in
     let f = sought k in
-    entry-planned _ _ _ (begun f .pre) _ (found k) _ (c .before .index-start .ensures)
-    (current (f .before .before .before)) (good (f .before)) (below (e .before) ∙ e .if3 .left) _ (c .offset .ensures .0)
+    c .at-slot .ensures _
+    (as-kind _ _ _ _ _ (c .before .deleted-kind .ensures) (λ z.
+    delete-done _ _ (begun f .pre) (current (f .before .before .before)) _ z (good (f .before)) _ (found k) (below (e .before) ∙ e .if3 .left)))
 
 pub plan-entry-spec : {M : Type 1} → statement M
 plan-entry-spec =
@@ -126,7 +126,7 @@ plan-entry-spec =
     enum-known-h
     any-below-requires
     returns-3
-    index-start-requires
-    offset-requires
+    (λ c κs. search needs)
+    at-slot-requires
     returns-4
     returns-5)
