@@ -3,14 +3,14 @@ use Prim.Native.Nat.{ℕ, _+_, _≤_}
 use mathlib.Core.Path.{_≡_, refl, sym, ap, ap₂, subst, _∙_}
 use mathlib.Core.Bool.{Bool, true, false, not}
 use mathlib.Core.List.{List, _∷_, _++_, map}
-use mathlib.Core.Option.{Option, none, some}
+use mathlib.Core.Option.{none, some}
 use native.Mathlib.Omega.{arith}
 use borrow.Author.Tests.{not-true}
 use lib.Dec.{leb}
 use lib.ListN.{length, getD}
 use lib.IntN.{ℤ}
 use Rattle.rules.specs.Lists.{pick, any, only, first, isSome, eqList}
-use Rattle.rules.specs.Lists.Laws.{clash, and-left}
+use Rattle.rules.specs.Lists.Laws.{and-left, is-some}
 use Rattle.rules.specs.Fields.{stampIn}
 use Rattle.rules.specs.SuperBlock.{writable, version10}
 use Rattle.rules.specs.SuperBlock.Laws.{SameSealed, storedStamp}
@@ -38,15 +38,6 @@ use Rattle.laws.proofs.Images.Indexes.{entry-room, kind-there, stamp-there}
 use Rattle.after.proofs.Retype.Left.{entries-before, entries-after, entries-map, changed, image, volume, opens}
 use Rattle.after.proofs.Delete.{DeletePassed, delete-passed, place, live, at-path, others}
 use Rattle.after.proofs.Reclaim.Left.{Reopens, reclaim-reopens}
-
-is-some : {A : Type 0} (o : Option A) → isSome o ≡ true → (x : A) × (o ≡ some x)
-unfolding isSome
-is-some none e = clash (sym e)
-is-some (some x) e = (x, refl)
-
-is-none : {A : Type 0} (o : Option A) → o ≡ none → isSome o ≡ false
-unfolding isSome
-is-none o e = rw e
 
 module _ (s : List ℕ) (v : Volume) (path : List ℕ) (stamp : ℤ) (bytes : Bytes s) (o : Opens s v) (d : DeletePassed s v path stamp) (may : writable (v .geometry) ≡ true) where
   abbrev it : Entry
@@ -87,9 +78,9 @@ module _ (s : List ℕ) (v : Volume) (path : List ℕ) (stamp : ℤ) (bytes : By
 
   -- ---- what a restore meets in it
   not-live : isSome (lookup path (entries w)) ≡ false
-  unfolding lookup liveAt isLive retypedEntry
+  unfolding lookup liveAt isLive isSome retypedEntry
   not-live =
-      is-none _
+      ap isSome
       (ap (first (liveAt path)) mapped
       ∙ none-first (liveAt path) (map (deleteAt path (storedStamp stamp)) (entries v))
       (all-map (λ e. liveAt path e ≡ false) (deleteAt path (storedStamp stamp)) (entries v)

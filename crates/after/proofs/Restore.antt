@@ -3,14 +3,14 @@ use Prim.Native.Nat.{ℕ}
 use mathlib.Core.Path.{_≡_, refl, sym, ap, _∙_}
 use mathlib.Core.Bool.{Bool, true, false, _&&_, _||_, not}
 use mathlib.Core.List.{List, _∷_, _++_, map}
-use mathlib.Core.Option.{Option, none, some}
+use mathlib.Core.Option.{none, some}
 use native.Mathlib.Omega.{arith}
 use lib.Dec.{leb}
 use lib.ListN.{length}
 use lib.IntN.{ℤ}
 use borrow.Author.Tests.{not-true}
 use Rattle.rules.specs.Lists.{any, only, first, isSome, eqList, All}
-use Rattle.rules.specs.Lists.Laws.{clash, and-true, or-right}
+use Rattle.rules.specs.Lists.Laws.{clash, and-true, or-right, is-none}
 use Rattle.rules.specs.SuperBlock.{blockLength}
 use Rattle.rules.specs.SuperBlock.Laws.{storedStamp}
 use Rattle.rules.specs.Names.{pathGood, leading}
@@ -32,11 +32,6 @@ use Rattle.laws.proofs.Images.Accepted.{passed-need, passed-found, passed-writa
 use Rattle.after.proofs.Retype.Left.{entries-before, retype-left}
 
 -- ---- what an accepted restore has passed
-is-none : {A : Type 0} (o : Option A) → not (isSome o) ≡ true → o ≡ none
-unfolding isSome
-is-none none e = refl
-is-none (some x) e = clash (sym e)
-
 record RestorePassed (s : List ℕ) (v : Volume) (path : List ℕ) (stamp : ℤ) : Type 0 where
   it : Entry
   found : first (deletedAt path) (entries v) ≡ some it
@@ -54,7 +49,7 @@ restore-passed s v path stamp o z =
     let p₃ = passed-need s w z (not (isSome (lookup path (entries v)))) 12 _ (omega arith) (p₂ .2) in
     let p₄ = passed-need s w z (nearestLive (entries v) (leading path)) 13 _ (omega arith) (p₃ .1) in
     let p₅ = passed-need s w z (leb (length (only (deletedAt path) (entries v))) 1) 19 _ (omega arith) (p₄ .1) in
-    record { it = p₂ .0; found = p₂ .1; free = is-none _ (p₃ .0); nearest = p₄ .0; one = p₅ .0; image = passed-done s _ w (p₅ .1) }
+    record { it = p₂ .0; found = p₂ .1; free = is-none _ (not-true _ (p₃ .0)); nearest = p₄ .0; one = p₅ .0; image = passed-done s _ w (p₅ .1) }
 
 -- ---- the deleted entry of the path, and no other
 -- of a name that is live or deleted

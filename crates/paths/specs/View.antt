@@ -99,7 +99,10 @@ unfoldable pub isFound : Search → Bool
 isFound Nothing = false
 isFound (found h) = true
 
-pub found-view : (s : List ℕ) (r : Search) → isFound r ≡ isSome (searchView s r)
+found-view : (s : List ℕ) (r : Search) → isFound r ≡ isSome (searchView s r)
 unfolding isFound searchView isSome
 found-view s Nothing = refl
 found-view s (found h) = refl
+
+pub searched-found : (s : List ℕ) (o : Option Entry) (r : Search) → Searched s o r → isFound r ≡ isSome o
+searched-found s o r told = found-view s r ∙ ap isSome (told .view)

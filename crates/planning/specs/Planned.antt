@@ -3,13 +3,13 @@ use Prim.Native.Nat.{ℕ, _+_, _-_, _*_, _≤_}
 use mathlib.Core.Path.{_≡_, refl, sym, ap, ap₂, _∙_}
 use mathlib.Core.Bool.{true, false}
 use mathlib.Core.List.{List}
-use mathlib.Core.Option.{Option, none, some}
+use mathlib.Core.Option.{none, some}
 use native.Mathlib.Omega.{arith}
 use native.Mathlib.Nat.{mul-le-mul-right, le-mul-of-pos-right}
 use lib.ListN.{length}
 use lib.IntN.{ℤ}
 use Rattle.rules.specs.Lists.{isSome}
-use Rattle.rules.specs.Lists.Laws.{clash}
+use Rattle.rules.specs.Lists.Laws.{is-some, is-none}
 use Rattle.rules.specs.SuperBlock.{Geometry, blockLength, ceilingBlock, writable}
 use Rattle.rules.specs.SuperBlock.Laws.{areas-fit, ceiling-fits}
 use Rattle.rules.specs.Names.{newPathGood, leading}
@@ -32,7 +32,7 @@ use Rattle.index.specs.declared.Cursor.{Cursor}
 use Rattle.index.specs.View.{itemsFrom}
 use Rattle.index.specs.Steps.{entriesFrom}
 use Rattle.judging.specs.View.{Opened, volumeOf}
-use Rattle.paths.specs.View.{Searched, isFound, found-view}
+use Rattle.paths.specs.View.{Searched, isFound, searched-found}
 use Rattle.paths.specs.declared.Search.{Search}
 use Rattle.placing.specs.Site.{siteView, NewIn}
 use Rattle.placing.specs.declared.Site.{Site}
@@ -49,21 +49,10 @@ pub planned-refused : (s : List ℕ) (new : New) (path : List ℕ) (stamp : ℤ)
 unfolding Planned
 planned-refused s new path stamp n e = create-refused s n e new path stamp
 
--- what was found, and what was not
-found-some : {A : Type 0} (o : Option A) → isSome o ≡ true → (x : A) × (o ≡ some x)
-unfolding isSome
-found-some none e = clash (sym e)
-found-some (some x) e = (x, refl)
-
-found-none : {A : Type 0} (o : Option A) → isSome o ≡ false → o ≡ none
-unfolding isSome
-found-none none e = refl
-found-none (some x) e = clash e
-
 -- the searches, of all entries
 module _ (s : List ℕ) (g : Geometry) (c : Cursor) (items : itemsFrom s c ≡ itemsOf s g) (path : List ℕ) where
   pub found-is : (r : Search) → Searched s (lookup path (entriesFrom s c)) r → isSome (lookup path (entries (volumeOf s g))) ≡ isFound r
-  found-is r told = ap (λ (is : List Item). isSome (lookup path (entriesOf is))) (sym items) ∙ ap isSome (sym (told .view)) ∙ sym (found-view s r)
+  found-is r told = ap (λ (is : List Item). isSome (lookup path (entriesOf is))) (sym items) ∙ sym (searched-found s _ r told)
 
   pub nearest-is : nearestLive (entries (volumeOf s g)) (leading path) ≡ nearestLive (entriesFrom s c) (leading path)
   nearest-is = ap (λ (is : List Item). nearestLive (entriesOf is) (leading path)) (sym items)
@@ -89,7 +78,7 @@ module _ (s : List ℕ) (g : Held) (opened : Opened s g) where
   pub admitted : (path : List ℕ) → writable (geometryView g) ≡ true → newPathGood path ≡ true → isSome (lookup path (entries v)) ≡ false
       → nearestLive (entries v) (leading path) ≡ true → Admitted s g path
   admitted path current named absent d =
-      record { current = current; named = named; absent = found-none (lookup path (entries v)) absent; nearest = d }
+      record { current = current; named = named; absent = is-none (lookup path (entries v)) absent; nearest = d }
 
   module _ (new : New) (path : List ℕ) (stamp : ℤ) where
     pub planned-later : writable (geometryView g) ≡ false → Planned s new path stamp (Refused 9)
@@ -104,13 +93,13 @@ module _ (s : List ℕ) (g : Held) (opened : Opened s g) where
       module _ (named : newPathGood path ≡ true) where
         pub planned-live : isSome (lookup path (entries v)) ≡ true → Planned s new path stamp (Refused 12)
         unfolding Planned
-        planned-live e = let f = found-some (lookup path (entries v)) e in
+        planned-live e = let f = is-some (lookup path (entries v)) e in
             create-live s v opened current new path stamp named (f .0) (f .1)
 
         module _ (absent : isSome (lookup path (entries v)) ≡ false) where
           pub planned-orphan : nearestLive (entries v) (leading path) ≡ false → Planned s new path stamp (Refused 13)
           unfolding Planned
-          planned-orphan d = create-orphan s v opened current new path stamp named (found-none (lookup path (entries v)) absent) d
+          planned-orphan d = create-orphan s v opened current new path stamp named (is-none (lookup path (entries v)) absent) d
 
   -- those passed, the places
   module _ (new : New) (path : List ℕ) (passed : Admitted s g path) where

@@ -1,8 +1,7 @@
 use Rattle.rules.specs.Paths.Laws.{any-first}
 use Rattle.rules.specs.Paths.{anyBelow}
-use Rattle.rules.specs.Lists.{isSome}
-use Rattle.paths.specs.View.{passes, liveBelow, found-view}
-use mathlib.Core.Path.{sym, ap, _∙_}
+use Rattle.paths.specs.View.{passes, liveBelow, searched-found}
+use mathlib.Core.Path.{sym, _∙_}
 use borrow.Author.Needs.{needs}
 use Rattle.paths.proofs.any_below.Statement.{statement}
 use Rattle.paths.proofs.any_below.Tie as tie
@@ -15,7 +14,7 @@ is-found-requires c κs = search needs
 
 returns : tie.Need-returns
 unfolding anyBelow passes liveBelow
-returns c = c .is-found .ensures ∙ found-view _ _ ∙ ap isSome (c .before .seek .ensures .view) ∙ sym (any-first _ _)
+returns c = c .is-found .ensures ∙ searched-found _ _ _ (c .before .seek .ensures) ∙ sym (any-first _ _)
 
 pub any-below-spec : {M : Type 1} → statement M
 any-below-spec = tie.close (tie.spec seek-requires is-found-requires returns)
