@@ -11,7 +11,7 @@ use Rattle.rules.specs.Paths.{nextLive}
 use Rattle.rules.specs.Refusals.{Verdict, refused, accepted, need, needFound, andThen, entries}
 use Rattle.rules.specs.Outcome.{Outcome, done, conclude, onVolume}
 use Rattle.rules.specs.Reading.{openOf, findOf, readOf, listed, listOf}
-use Rattle.rules.specs.Writing.{New, formatOf, createOf, deleteOf, reclaimOf}
+use Rattle.rules.specs.Writing.{New, formatOf, createOf, deleteOf, restoreOf, reclaimOf}
 
 -- what holds of the outcome, where there is one
 Each : {A : Type 0} → (A → Type 0) → Verdict A → Type 0
@@ -117,6 +117,17 @@ delete-refused s path stamp =
     each-need Zero _ _ _
     (each-need Zero _ _ _
     (each-found Zero _ _ _ (λ e. each-need Zero _ _ _ (each-accepted Zero _ refl))))))
+
+pub restore-refused : (s path : List ℕ) (stamp : ℤ)
+    → eqb (restoreOf s path stamp .refusal) 0 ≡ false → restoreOf s path stamp .image ≡ s
+unfolding restoreOf onVolume done
+restore-refused s path stamp =
+    refused-image _ s _ _
+    (each-then Zero _ _ (λ v.
+    each-need Zero _ _ _
+    (each-need Zero _ _ _
+    (each-found Zero _ _ _ (λ e.
+    each-need Zero _ _ _ (each-need Zero _ _ _ (each-need Zero _ _ _ (each-accepted Zero _ refl))))))))
 
 pub reclaim-refused : (s : List ℕ) (stamp : ℤ)
     → eqb (reclaimOf s stamp .refusal) 0 ≡ false → reclaimOf s stamp .image ≡ s

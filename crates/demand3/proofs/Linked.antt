@@ -1,6 +1,6 @@
 -- The image and its history agree after every list of calls, given what each accepted writing call leaves.
-use Prim.Native.Nat.{ℕ, _+_}
-use mathlib.Core.Path.{_≡_, refl, ap, _∙_}
+use Prim.Native.Nat.{ℕ}
+use mathlib.Core.Path.{_≡_, refl, sym, _∙_}
 use mathlib.Core.Bool.{Bool, true, false}
 use mathlib.Core.List.{List, [], _∷_}
 use native.Mathlib.Omega.{arith}
@@ -9,12 +9,12 @@ use borrow.Author.Tests.{eqb-true}
 use Rattle.rules.specs.Lists.{sum, Perm, keep, thus}
 use Rattle.rules.specs.SuperBlock.{blockLength}
 use Rattle.rules.specs.Refusals.{accepted, Volume, judge}
-use Rattle.rules.specs.Writing.{New, formatOf, createOf, deleteOf, reclaimOf}
-use Rattle.rules.specs.History.{Call, format, openVolume, find, list, read, create, delete, reclaim, passed, step, marked, History, fed, feed, run, told}
-use Rattle.after.specs.After.{Extent, sight, unusables, AfterFormat, AfterCreate, AfterDelete, AfterReclaim}
-use Rattle.laws.proofs.Lists.Parts.{sum-map, sum-parts}
+use Rattle.rules.specs.Writing.{New, formatOf, createOf, deleteOf, restoreOf, reclaimOf}
+use Rattle.rules.specs.History.{Call, format, openVolume, find, list, read, create, delete, restore, reclaim, passed, step, marked, revived, Kept, History, fed, feed, run, told}
+use Rattle.rules.specs.History.Laws.{Balanced, balanced-fed}
+use Rattle.after.specs.After.{Left, Extent, sight, unusables, AfterFormat, AfterCreate, AfterDelete, AfterRestore, AfterReclaim}
 use Rattle.laws.proofs.Lists.Perms.{perm-map, perm-only}
-use Rattle.demand3.proofs.Calls.{open-image, find-image, list-image, read-image, format-refused, create-refused, delete-refused, reclaim-refused}
+use Rattle.demand3.proofs.Calls.{open-image, find-image, list-image, read-image, format-refused, create-refused, delete-refused, restore-refused, reclaim-refused}
 
 -- ---- the unusable regions: an accepted format leaves none, every other call leaves them
 unfoldable pub unusableFed : List Extent → Call → List Extent
@@ -25,6 +25,7 @@ unusableFed bad (list slot out) = bad
 unusableFed bad (read path out) = bad
 unusableFed bad (create new path stamp) = bad
 unusableFed bad (delete path stamp) = bad
+unusableFed bad (restore path stamp) = bad
 unusableFed bad (reclaim stamp) = bad
 
 unfoldable pub unusableFeed : List Extent → Call → Bool → List Extent
@@ -42,7 +43,7 @@ pub record Link (s : List ℕ) (h : History) (bad : List Extent) : Type 0 where
   pub blocks : blockLength (volume .geometry) ≡ h .blockBytes
   pub agree : Perm (sight s volume) (h .kept)
   pub unusable : Perm (unusables volume) bad
-  pub sums : sum (λ k. k .blocks) (h .kept) + h .givenBack ≡ h .granted
+  pub sums : Balanced h
 
 -- by whether the call answered 0
 fed-by : (s t : List ℕ) (h : History) (bad : List Extent) (c : Call) (answered : Bool)
@@ -59,7 +60,19 @@ read-on : (s t : List ℕ) (h : History) (bad : List Extent) (c : Call) (answere
     → Link t (feed h c answered) (unusableFeed bad c answered)
 read-on s t h bad c answered q u e l = fed-by s t h bad c answered (λ _. rw (q, u, e) l) (λ _. e) l
 
-module _ (format-left : AfterFormat) (create-left : AfterCreate) (delete-left : AfterDelete) (reclaim-left : AfterReclaim) where
+-- an accepted call that writes, format apart: what it left is what the history is fed
+left-link : (s t : List ℕ) (h : History) (bad : List Extent) (c : Call) (told : List Kept) (l : Link s h bad) → Left t (blockLength (l .volume .geometry)) told (unusables (l .volume))
+    → fed h c .blockBytes ≡ h .blockBytes → Perm told (fed h c .kept) → Link t (fed h c) bad
+left-link s t h bad c told l n b p = record {
+  volume = n .volume;
+  opens = n .opens;
+  blocks = n .blocks ∙ l .blocks ∙ sym b;
+  agree = thus (n .agree) p;
+  unusable = thus (n .unusable) (l .unusable);
+  sums = balanced-fed h c (l .sums);
+}
+
+module _ (format-left : AfterFormat) (create-left : AfterCreate) (delete-left : AfterDelete) (restore-left : AfterRestore) (reclaim-left : AfterReclaim) where
   -- from any image and any history
   pub formatted : (s : List ℕ) (h : History) (bytesPerBlock reserved : ℕ) (name : List ℕ) (stamp : ℤ)
       → formatOf s bytesPerBlock reserved name stamp .refusal ≡ 0
@@ -72,47 +85,30 @@ module _ (format-left : AfterFormat) (create-left : AfterCreate) (delete-left : 
   created : (s : List ℕ) (h : History) (bad : List Extent) (new : New) (path : List ℕ) (stamp : ℤ) → Link s h bad
       → createOf s new path stamp .refusal ≡ 0
       → Link (createOf s new path stamp .image) (fed h (create new path stamp)) bad
-  unfolding fed sum
+  unfolding fed
   created s h bad new path stamp l e =
-      let n = create-left s (l .volume) new path stamp (l .opens) e in
-      record {
-        volume = n .volume;
-        opens = n .opens;
-        blocks = n .blocks ∙ l .blocks;
-        agree = thus (rw (l .blocks) at (n .agree)) (keep (l .agree));
-        unusable = thus (n .unusable) (l .unusable);
-        sums = omega (arith, l .sums);
-      }
+      left-link s _ h bad (create new path stamp) _ l (create-left s (l .volume) new path stamp (l .opens) e) refl (rw (l .blocks) (keep (l .agree)))
 
   deleted : (s : List ℕ) (h : History) (bad : List Extent) (path : List ℕ) (stamp : ℤ) → Link s h bad
       → deleteOf s path stamp .refusal ≡ 0
       → Link (deleteOf s path stamp .image) (fed h (delete path stamp)) bad
-  unfolding fed marked
+  unfolding fed
   deleted s h bad path stamp l e =
-      let n = delete-left s (l .volume) path stamp (l .opens) e in
-      record {
-        volume = n .volume;
-        opens = n .opens;
-        blocks = n .blocks ∙ l .blocks;
-        agree = thus (n .agree) (perm-map (marked path) (l .agree));
-        unusable = thus (n .unusable) (l .unusable);
-        sums = ap (λ k. k + h .givenBack) (sum-map (λ k. k .blocks) (marked path) (h .kept)) ∙ l .sums;
-      }
+      left-link s _ h bad (delete path stamp) _ l (delete-left s (l .volume) path stamp (l .opens) e) refl (perm-map (marked path) (l .agree))
+
+  restored : (s : List ℕ) (h : History) (bad : List Extent) (path : List ℕ) (stamp : ℤ) → Link s h bad
+      → restoreOf s path stamp .refusal ≡ 0
+      → Link (restoreOf s path stamp .image) (fed h (restore path stamp)) bad
+  unfolding fed
+  restored s h bad path stamp l e =
+      left-link s _ h bad (restore path stamp) _ l (restore-left s (l .volume) path stamp (l .opens) e) refl (perm-map (revived path) (l .agree))
 
   reclaimed : (s : List ℕ) (h : History) (bad : List Extent) (stamp : ℤ) → Link s h bad
       → reclaimOf s stamp .refusal ≡ 0
       → Link (reclaimOf s stamp .image) (fed h (reclaim stamp)) bad
   unfolding fed
   reclaimed s h bad stamp l e =
-      let n = reclaim-left s (l .volume) stamp (l .opens) e in
-      record {
-        volume = n .volume;
-        opens = n .opens;
-        blocks = n .blocks ∙ l .blocks;
-        agree = thus (n .agree) (perm-only (λ k. k .live) (l .agree));
-        unusable = thus (n .unusable) (l .unusable);
-        sums = omega (arith, l .sums, sum-parts (λ k. k .blocks) (λ k. k .live) (h .kept));
-      }
+      left-link s _ h bad (reclaim stamp) _ l (reclaim-left s (l .volume) stamp (l .opens) e) refl (perm-only (λ k. k .live) (l .agree))
 
   -- ---- a call, and a list of calls
   stepped : (s : List ℕ) (h : History) (bad : List Extent) (c : Call) → Link s h bad
@@ -131,6 +127,8 @@ module _ (format-left : AfterFormat) (create-left : AfterCreate) (delete-left : 
       fed-by s _ h bad (create new path stamp) _ (λ a. created s h bad new path stamp l (eqb-true _ 0 a)) (create-refused s new path stamp) l
   stepped s h bad (delete path stamp) l =
       fed-by s _ h bad (delete path stamp) _ (λ a. deleted s h bad path stamp l (eqb-true _ 0 a)) (delete-refused s path stamp) l
+  stepped s h bad (restore path stamp) l =
+      fed-by s _ h bad (restore path stamp) _ (λ a. restored s h bad path stamp l (eqb-true _ 0 a)) (restore-refused s path stamp) l
   stepped s h bad (reclaim stamp) l =
       fed-by s _ h bad (reclaim stamp) _ (λ a. reclaimed s h bad stamp l (eqb-true _ 0 a)) (reclaim-refused s stamp) l
 

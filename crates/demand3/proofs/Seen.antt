@@ -4,18 +4,20 @@ use mathlib.Core.Path.{_≡_, refl, sym, ap, _∙_}
 use mathlib.Core.Bool.{Bool, true, false}
 use mathlib.Core.List.{List, [], _∷_, map}
 use native.Mathlib.Omega.{arith}
-use Rattle.rules.specs.Lists.{pick, keepIf, only, sum, All, Pairs}
+use Rattle.rules.specs.Lists.{keepIf, only, sum, All, Pairs}
 use Rattle.rules.specs.Lists.Laws.{clash, or-right, sum-map}
 use Rattle.rules.specs.SuperBlock.{Geometry}
-use Rattle.rules.specs.Index.{Entry, runType, directoryType, fileType, liveType, typeFile, typeDirectory}
+use Rattle.rules.specs.Index.{Entry, runType, directoryType, fileType, liveType}
 use Rattle.rules.specs.Regions.{blocksOf, regionsSound, heldBlocks}
 use Rattle.rules.specs.Regions.Laws.{apart-none}
 use Rattle.rules.specs.Paths.{isLive}
+use Rattle.rules.specs.Paths.Laws.{live-run}
+use Rattle.rules.specs.Writing.{liveKind}
 use Rattle.rules.specs.Refusals.{Volume, entries}
 use Rattle.rules.specs.History.{NoShared, nameOfEntry, nameOfKept}
 use Rattle.after.specs.After.{isNamed, seen, sight}
 use Rattle.laws.proofs.Lists.Every.{pairs-weaken, pairs-only}
-use Rattle.laws.proofs.Entries.EntryKinds.{live-cases, run-usable}
+use Rattle.laws.proofs.Entries.EntryKinds.{live-kind as own-kind, run-usable}
 use Rattle.laws.proofs.Entries.Regions.{Settled, sound-says}
 
 -- ---- kinds
@@ -24,9 +26,8 @@ unfolding runType
 file-named t e = or-right (directoryType t) (fileType t) e
 
 -- a live kind is a file's or a directory's, and the history sees it as it is
-pub live-kind : (t : ℕ) → liveType t ≡ true → (runType t ≡ true) × (pick (fileType t) typeFile typeDirectory ≡ t)
-unfolding runType directoryType fileType pick
-live-kind = live-cases (λ t. (runType t ≡ true) × (pick (fileType t) typeFile typeDirectory ≡ t)) (refl, refl) (refl, refl)
+pub live-kind : (t : ℕ) → liveType t ≡ true → (runType t ≡ true) × (liveKind t ≡ t)
+live-kind t h = (live-run t h, own-kind t h)
 
 -- ---- blocks: only files hold any
 no-blocks : (e : Entry) → Settled e → runType (e .kind) ≡ true → fileType (e .kind) ≡ false → blocksOf e ≡ 0

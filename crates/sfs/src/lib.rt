@@ -4,7 +4,7 @@ use contracts::Content;
 use contracts::Entry;
 use contracts::Listed;
 use contracts::Volume;
-ghost use Rattle.contracts.specs.Contracts.{Formats, OpensVolume, Finds, Lists, Reads, CreatesFile, CreatesDirectory, Deletes, Reclaims, WritesListing};
+ghost use Rattle.contracts.specs.Contracts.{Formats, OpensVolume, Finds, Lists, Reads, CreatesFile, CreatesDirectory, Deletes, Restores, Reclaims, WritesListing};
 
 #[no_mangle]
 pub extern "C" fn sfs_format(
@@ -72,6 +72,13 @@ pub extern "C" fn sfs_delete(image: &mut [u8], path: &[u8], stamp: i64) -> u32
     ensures { λ r. ⌜ Deletes (now (image .entry)) (now (path .entry)) stamp r (now (image .exit)) ⌝ }
 {
     erasing::delete(image, path, stamps::to_bits(stamp))
+}
+
+#[no_mangle]
+pub extern "C" fn sfs_restore(image: &mut [u8], path: &[u8], stamp: i64) -> u32
+    ensures { λ r. ⌜ Restores (now (image .entry)) (now (path .entry)) stamp r (now (image .exit)) ⌝ }
+{
+    restoring::restore(image, path, stamps::to_bits(stamp))
 }
 
 #[no_mangle]
