@@ -54,14 +54,15 @@ enum sfs_refusal {
     SFS_PATHS = 8,             /* a path repeated, or without its directory */
     SFS_READ_ONLY = 9,         /* version above 1.0: the volume may only be read */
     SFS_NAME = 10,             /* a path or name argument that is not allowed */
-    SFS_NOT_FOUND = 11,        /* no live entry has the path */
+    SFS_NOT_FOUND = 11,        /* no live entry has the path; of a restore: no deleted one */
     SFS_EXISTS = 12,           /* a live entry has the path already */
     SFS_NO_DIRECTORY = 13,     /* the path's directory is not there */
     SFS_NOT_EMPTY = 14,        /* the directory has live entries below it */
     SFS_NO_SLOTS = 15,         /* no room in the index */
     SFS_NO_BLOCKS = 16,        /* no free run of blocks is long enough */
     SFS_NOT_A_FILE = 17,       /* a file was wanted */
-    SFS_OUTPUT_TOO_SHORT = 18  /* the lent output is too short */
+    SFS_OUTPUT_TOO_SHORT = 18, /* the lent output is too short */
+    SFS_AMBIGUOUS = 19         /* two or more deleted entries have the path */
 };
 
 /* The numbers of a volume. */
@@ -137,10 +138,20 @@ uint32_t sfs_create_file(uint8_t *image, size_t image_len, const uint8_t *path, 
 /* Creates a directory. Refusals: 1 to 10, 12, 13, 15. */
 uint32_t sfs_create_directory(uint8_t *image, size_t image_len, const uint8_t *path, size_t path_len, int64_t stamp);
 
-/* Deletes a file or an empty directory; its slots and blocks stay held until a reclaim. Refusals: 1 to 11, 14. */
+/*
+ * Deletes a file or an empty directory. Its slots and blocks stay held, and it can be restored, until a reclaim.
+ * Refusals: 1 to 11, 14.
+ */
 uint32_t sfs_delete(uint8_t *image, size_t image_len, const uint8_t *path, size_t path_len, int64_t stamp);
 
-/* Frees what deleted entries hold. Refusals: 1 to 9. */
+/*
+ * Brings the deleted file or directory of a path back, with its bytes and with this stamp; a directory comes back without
+ * what was below it. The path must not be live (12), and its directory must be (13). Where two or more deleted entries
+ * have the path, none is chosen (19). Refusals: 1 to 13, 19.
+ */
+uint32_t sfs_restore(uint8_t *image, size_t image_len, const uint8_t *path, size_t path_len, int64_t stamp);
+
+/* Frees what deleted entries hold; they cannot be restored any more. Refusals: 1 to 9. */
 uint32_t sfs_reclaim(uint8_t *image, size_t image_len, int64_t stamp);
 
 /*

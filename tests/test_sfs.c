@@ -67,6 +67,7 @@ NUMBER(SFS_NO_SLOTS, 15);
 NUMBER(SFS_NO_BLOCKS, 16);
 NUMBER(SFS_NOT_A_FILE, 17);
 NUMBER(SFS_OUTPUT_TOO_SHORT, 18);
+NUMBER(SFS_AMBIGUOUS, 19);
 NUMBER(SFS_DIRECTORY, 0x11);
 NUMBER(SFS_FILE, 0x12);
 NUMBER(SFS_IMAGE_MIN, 512);
@@ -147,6 +148,8 @@ static void empty_slices(void) {
     CHECK(sfs_create_file(NULL, 0, B("a"), NULL, 0, 0) == SFS_IMAGE_LENGTH);
     CHECK(sfs_create_directory(NULL, 0, B("a"), 0) == SFS_IMAGE_LENGTH);
     CHECK(sfs_delete(NULL, 0, B("a"), 0) == SFS_IMAGE_LENGTH);
+    CHECK(sfs_restore(NULL, 0, B("a"), 0) == SFS_IMAGE_LENGTH);
+    CHECK(sfs_restore(NULL, 0, NULL, 0, 0) == SFS_IMAGE_LENGTH);
     CHECK(sfs_reclaim(NULL, 0, 0) == SFS_IMAGE_LENGTH);
     CHECK(memcmp(out, "\1\2\3\4", 4) == 0);
 }
@@ -299,6 +302,70 @@ static void deletes(void) {
     free(image);
 }
 
+/* A delete, then a restore: with another stamp type and stamp of the entry change, with the old one nothing. */
+static void restores(void) {
+    uint8_t *image = stamped(), *before = stamped(), *slot = before + 65536 - 320 + 64, out[16];
+    struct sfs_entry found = sfs_find(image, 65536, B("d/the-second"));
+    CHECK(sfs_delete(image, 65536, B("d/the-second"), DELETED) == SFS_OK);
+    CHECK(sfs_restore(image, 65536, B("d/the-second"), found.stamp) == SFS_OK);
+    CHECK(memcmp(image, before, 65536) == 0);
+    CHECK(sfs_delete(image, 65536, B("d/the-second"), DELETED) == SFS_OK);
+    CHECK(sfs_restore(image, 65536, B("d/the-second"), -2) == SFS_OK);
+    memcpy(slot, "\x12\0\xFE\xFF\xFF\xFF\xFF\xFF\xFF\xFF", 10);
+    CHECK(memcmp(image, before, 65536) == 0);
+    CHECK(volume_is(sfs_open(image, 65536, out, 6), stamped_volume));
+    found.stamp = -2;
+    CHECK(entry_is(sfs_find(image, 65536, B("d/the-second")), found));
+    CHECK(sfs_reclaim(image, 65536, RECLAIMED) == SFS_OK); /* no block of it is given back */
+    CHECK(entry_is(sfs_find(image, 65536, B("d/the-second")), found));
+    free(image);
+    free(before);
+}
+
+/* A directory comes back without what was below it, and what was below it only once the directory is there. */
+static void restores_directories(void) {
+    uint8_t *image = session(), out[4] = {0};
+    CHECK(sfs_delete(image, 65536, B("session/verified"), 1) == SFS_OK);
+    CHECK(sfs_delete(image, 65536, B("session"), 2) == SFS_OK);
+    CHECK(sfs_restore(image, 65536, B("session/verified"), 3) == SFS_NO_DIRECTORY);
+    CHECK(sfs_restore(image, 65536, B("session"), 3) == SFS_OK);
+    CHECK(sfs_find(image, 65536, B("session")).kind == SFS_DIRECTORY);
+    CHECK(zero_entry(sfs_find(image, 65536, B("session/verified")), SFS_NOT_FOUND));
+    CHECK(sfs_restore(image, 65536, B("session/verified"), 3) == SFS_OK);
+    CHECK(content_is(sfs_read(image, 65536, B("session/verified"), out, 4), (struct sfs_content){.length = 3}));
+    CHECK(memcmp(out, "yes", 4) == 0);
+    free(image);
+}
+
+/* Each refusal where a later one holds too, and no byte changes. */
+static void restores_refused(void) {
+    uint8_t *image = session(), *before = new_image(65536);
+    CHECK(sfs_restore(image, 65536, B("session/verified"), 1) == SFS_NOT_FOUND); /* live, and none deleted */
+    CHECK(sfs_delete(image, 65536, B("session/verified"), 1) == SFS_OK);
+    CHECK(sfs_create_directory(image, 65536, B("session/verified"), 2) == SFS_OK);
+    CHECK(sfs_restore(image, 65536, B("session/verified"), 1) == SFS_EXISTS);
+    CHECK(sfs_delete(image, 65536, B("session/verified"), 3) == SFS_OK);
+    memcpy(before, image, 65536);
+    CHECK(sfs_restore(image, 65536, B("session/verified"), 4) == SFS_AMBIGUOUS); /* a file and a directory */
+    CHECK(sfs_restore(image, 65536, B("session//verified"), 4) == SFS_NAME);
+    CHECK(sfs_restore(image, 65536, NULL, 0, 4) == SFS_NAME);
+    CHECK(sfs_restore(image, 65536, B("session/other"), 4) == SFS_NOT_FOUND);
+    CHECK(memcmp(image, before, 65536) == 0);
+    CHECK(sfs_delete(image, 65536, B("session"), 5) == SFS_OK);
+    memcpy(before, image, 65536);
+    CHECK(sfs_restore(image, 65536, B("session/verified"), 6) == SFS_NO_DIRECTORY); /* two of them besides */
+    image[0x1AF]++;
+    image[0x1BD]--;
+    CHECK(sfs_restore(image, 65536, B("session//verified"), 6) == SFS_READ_ONLY);
+    image[0x1AF]--;
+    image[0x1BD]++;
+    CHECK(memcmp(image, before, 65536) == 0);
+    CHECK(sfs_reclaim(image, 65536, 7) == SFS_OK);
+    CHECK(sfs_restore(image, 65536, B("session"), 8) == SFS_NOT_FOUND);
+    free(image);
+    free(before);
+}
+
 /* After 64,000 bytes five empty files are accepted and the sixth is 15; deleting changes nothing; a reclaim does. */
 static void full_volume(void) {
     uint8_t *image = new_image(65536), *bytes = new_image(64001);
@@ -443,6 +510,9 @@ int main(void) {
     creates_refused();
     reads();
     deletes();
+    restores();
+    restores_directories();
+    restores_refused();
     full_volume();
     listing();
     names_refused();

@@ -9,9 +9,10 @@ mod names;
 use library::Library;
 use second::generator;
 use second::script::Session;
+use second::selftest::restore_table;
 use std::process::ExitCode;
 
-const USAGE: &str = "usage: compare SEED CALLS [history|damage|built|edges|args|names]
+const USAGE: &str = "usage: compare SEED CALLS [history|damage|built|edges|args|names|restore]
        compare bench
        compare names";
 
@@ -57,7 +58,8 @@ fn compare(seed: &str, calls: &str, kind: Option<&str>) -> Result<String, String
             _ => {}
         }
     }
-    Ok(format!("seed {seed}: {} calls alike, {histories} histories held", own.calls))
+    let restores = restore_table(&own.answers("restore"));
+    Ok(format!("{restores}seed {seed}: {} calls alike, {histories} histories held", own.calls))
 }
 
 /// The lines since the image was last made anew, which are enough to show a difference.

@@ -4,7 +4,7 @@
 use crate::index::Entry;
 use crate::refusal::Refusal;
 
-/// The answer of the calls that write: format, create, delete and reclaim.
+/// The answer of the calls that write: format, create, delete, restore and reclaim.
 #[derive(Clone, Copy, Debug, Default, PartialEq, Eq)]
 pub struct Written {
     pub refusal: Refusal,

@@ -64,12 +64,7 @@ fn plan(image: &[u8], path: &[u8], content: Content) -> Result<Plan, Refusal> {
     if path.len() > names::MOST_PATH || !names::path_allowed(path) {
         return Err(refusal::BAD_NAME);
     }
-    if volume.live.get(path).is_some() {
-        return Err(refusal::ALREADY_LIVE);
-    }
-    if !volume.live.has_directory_for(path) {
-        return Err(refusal::NO_DIRECTORY);
-    }
+    volume.judge_vacant(path)?;
     let slots = 1 + continuing(path.len(), content);
     let (slot, grown) = take_slots(&volume, slots)?;
     let region = take_blocks(&volume, &grown, content.bytes().len())?;

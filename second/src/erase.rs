@@ -1,25 +1,33 @@
-//! Delete, which only marks an entry, and reclaim, which gives slots and blocks back.
+//! Delete, which only marks an entry, restore, which undoes the mark, and reclaim, which gives slots and blocks back.
 
 use crate::answer::Written;
 use crate::bytes::put;
-use crate::index::{Entry, DELETED_DIRECTORY, DELETED_FILE, DIRECTORY, SLOT_LENGTH, STAMP_AT, UNUSED};
+use crate::index::{Entry, DELETED_DIRECTORY, DELETED_FILE, DIRECTORY, FILE, SLOT_LENGTH, STAMP_AT, UNUSED};
 use crate::refusal::{self, Refusal};
 use crate::regions::{self, Region};
 use crate::superblock::{self, Geometry};
 use crate::volume::Volume;
 
-/// Marks a live entry deleted: refusals 1 to 11 and 14.
-pub fn delete(image: &mut [u8], path: &[u8], stamp: i64) -> Written {
-    plan_delete(image, path)
-        .map(|(at, kind)| {
-            put(image, at, &[kind]);
-            put(image, at + STAMP_AT, &stamp.to_le_bytes());
-        })
-        .into()
+/// An entry's byte offset and its new type.
+struct Mark {
+    at: usize,
+    kind: u8,
 }
 
-/// The byte offset of the entry and its new type.
-fn plan_delete(image: &[u8], path: &[u8]) -> Result<(usize, u8), Refusal> {
+impl Mark {
+    /// All else in the entry stays, so that a deleted one can come back whole.
+    fn write(&self, image: &mut [u8], stamp: i64) {
+        put(image, self.at, &[self.kind]);
+        put(image, self.at + STAMP_AT, &stamp.to_le_bytes());
+    }
+}
+
+/// Marks a live entry deleted: refusals 1 to 11 and 14.
+pub fn delete(image: &mut [u8], path: &[u8], stamp: i64) -> Written {
+    plan_delete(image, path).map(|mark| mark.write(image, stamp)).into()
+}
+
+fn plan_delete(image: &[u8], path: &[u8]) -> Result<Mark, Refusal> {
     let volume = Volume::judge(image)?;
     volume.judge_writable()?;
     let entry = volume.lookup(path)?;
@@ -28,7 +36,23 @@ fn plan_delete(image: &[u8], path: &[u8]) -> Result<(usize, u8), Refusal> {
         return Err(refusal::NOT_EMPTY);
     }
     let kind = if directory { DELETED_DIRECTORY } else { DELETED_FILE };
-    Ok((volume.super_block.geometry.slot_offset(entry.slot), kind))
+    Ok(Mark { at: volume.super_block.geometry.slot_offset(entry.slot), kind })
+}
+
+/// Marks the one deleted entry of a path live again: refusals 1 to 13 and 19.
+pub fn restore(image: &mut [u8], path: &[u8], stamp: i64) -> Written {
+    plan_restore(image, path).map(|mark| mark.write(image, stamp)).into()
+}
+
+/// No slot or block is sought: the entry has kept its own.
+fn plan_restore(image: &[u8], path: &[u8]) -> Result<Mark, Refusal> {
+    let volume = Volume::judge(image)?;
+    volume.judge_writable()?;
+    let deleted = volume.lookup_deleted(path)?;
+    volume.judge_vacant(path)?;
+    let [entry] = deleted.as_slice() else { return Err(refusal::SEVERAL_DELETED) };
+    let kind = if entry.is_file() { FILE } else { DIRECTORY };
+    Ok(Mark { at: volume.super_block.geometry.slot_offset(entry.slot), kind })
 }
 
 /// Empties the runs of deleted entries and trims the data area: refusals 1 to 9.

@@ -16,6 +16,7 @@ pub enum Told<'a> {
     File { path: &'a [u8], bytes: &'a [u8] },
     Directory { path: &'a [u8] },
     Delete { path: &'a [u8] },
+    Restore { path: &'a [u8] },
     Reclaim,
 }
 
@@ -55,16 +56,21 @@ impl History {
                 self.add(path, LIVE_FILE, bytes, blocks);
             }
             Told::Directory { path } => self.add(path, LIVE_DIRECTORY, &[], 0),
-            Told::Delete { path } => {
-                if let Some(kept) = self.entries.iter_mut().find(|kept| kept.live && kept.path == path) {
-                    kept.live = false;
-                }
-            }
+            Told::Delete { path } => self.turn(path, false),
+            Told::Restore { path } => self.turn(path, true),
             Told::Reclaim => {
                 let deleted = self.entries.iter().filter(|kept| !kept.live);
                 self.given_back += deleted.map(|kept| kept.blocks).sum::<u64>();
                 self.entries.retain(|kept| kept.live);
             }
+        }
+    }
+
+    /// Turns the path's live entry deleted, or its deleted one live. Its blocks stay granted either way, and an
+    /// accepted restore leaves no choice: a path with two deleted entries is refused.
+    fn turn(&mut self, path: &[u8], live: bool) {
+        if let Some(kept) = self.entries.iter_mut().find(|kept| kept.live != live && kept.path == path) {
+            kept.live = live;
         }
     }
 

@@ -28,7 +28,7 @@ pub mod xorshift;
 
 pub use answer::{Found, Listed, Opened, Read, Written};
 pub use create::{create, create_directory, create_file, Content};
-pub use erase::{delete, reclaim};
+pub use erase::{delete, reclaim, restore};
 pub use format::format;
 pub use listing::listing;
 pub use query::{find, list, open, read};

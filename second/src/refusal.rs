@@ -14,6 +14,7 @@ pub const REGIONS: Refusal = 7;
 pub const PATHS: Refusal = 8;
 pub const NEWER_VERSION: Refusal = 9;
 pub const BAD_NAME: Refusal = 10;
+/// The path has no entry of the wanted sort: a deleted one for restore, a live one for the other calls.
 pub const NOT_LIVE: Refusal = 11;
 pub const ALREADY_LIVE: Refusal = 12;
 pub const NO_DIRECTORY: Refusal = 13;
@@ -22,6 +23,13 @@ pub const NO_SLOTS: Refusal = 15;
 pub const NO_BLOCKS: Refusal = 16;
 pub const NOT_A_FILE: Refusal = 17;
 pub const OUTPUT_SHORT: Refusal = 18;
+pub const SEVERAL_DELETED: Refusal = 19;
 
 /// The highest refusal number.
-pub const HIGHEST: Refusal = OUTPUT_SHORT;
+pub const HIGHEST: Refusal = SEVERAL_DELETED;
+
+/// The numbers restore can answer.
+pub const OF_RESTORE: [Refusal; 15] = [0, 1, 2, 3, 4, 5, 6, 7, 8, 9, 10, 11, 12, 13, 19];
+
+/// How often each number was answered, success at place 0.
+pub type Counts = [u64; HIGHEST as usize + 1];

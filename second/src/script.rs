@@ -2,9 +2,10 @@
 
 use crate::answer::{Found, Listed, Opened};
 use crate::history::{History, Told};
-use crate::refusal::{Refusal, HIGHEST};
+use crate::refusal::{Counts, Refusal};
 use crate::store::{Own, Store};
 use crate::xorshift::fill;
+use std::collections::BTreeMap;
 
 /// The most bytes a script may ask for in one piece.
 pub const MOST_BYTES: u64 = 17_000_000;
@@ -88,7 +89,9 @@ pub struct Session<S = Own> {
     image: Vec<u8>,
     history: Option<History>,
     /// How often each refusal number was the answer of a call; listings and histories not counted.
-    pub met: [u64; HIGHEST as usize + 1],
+    pub met: Counts,
+    /// The same, parted by the word of the call.
+    by_word: BTreeMap<String, Counts>,
     /// Calls answered, listings among them.
     pub calls: u64,
     /// The last call's refusal number.
@@ -112,11 +115,17 @@ impl Session {
 impl<S: Store> Session<S> {
     /// A session whose calls go to this store.
     pub fn over(store: S) -> Self {
-        Session { store, image: Vec::new(), history: None, met: Default::default(), calls: 0, last: 0, digests: true }
+        let (image, met, by_word) = Default::default();
+        Session { store, image, history: None, met, by_word, calls: 0, last: 0, digests: true }
     }
 
     pub fn image(&self) -> &[u8] {
         &self.image
+    }
+
+    /// How often the calls of this word answered each number.
+    pub fn answers(&self, word: &str) -> Counts {
+        self.by_word.get(word).copied().unwrap_or_default()
     }
 
     /// Carries out one line; gives the line to print, if there is one.
@@ -129,7 +138,7 @@ impl<S: Store> Session<S> {
         match word {
             "image" | "imagefill" | "imagehex" | "poke" | "truncate" => self.reshape(word, words).map(|()| None),
             "open" | "find" | "list" | "read" => self.ask(word, words).map(Some),
-            "format" | "mkfile" | "mkdir" | "delete" | "reclaim" => self.write(word, words).map(Some),
+            "format" | "mkfile" | "mkdir" | "delete" | "restore" | "reclaim" => self.write(word, words).map(Some),
             "listing" => self.listing(words).map(Some),
             "history" => words.done().map(|()| Some(self.check())),
             _ => Err(format!("unknown command {word:.20}")),
@@ -184,6 +193,7 @@ impl<S: Store> Session<S> {
             "mkfile" => (store.create_file(image, &path, stamp, &bytes), Told::File { path: &path, bytes: &bytes }),
             "mkdir" => (store.create_directory(image, &path, stamp), Told::Directory { path: &path }),
             "delete" => (store.delete(image, &path, stamp), Told::Delete { path: &path }),
+            "restore" => (store.restore(image, &path, stamp), Told::Restore { path: &path }),
             _ => (store.reclaim(image, stamp), Told::Reclaim),
         };
         self.tell(told, answer.refusal == 0);
@@ -217,8 +227,9 @@ impl<S: Store> Session<S> {
     fn answer(&mut self, word: &str, refusal: Refusal, numbers: &[i128], output: Option<&[u8]>) -> String {
         self.calls += 1;
         self.last = refusal;
-        if let Some(met) = self.met.get_mut(usize::from(refusal)) {
-            *met += 1;
+        let by_word = self.by_word.entry(word.to_string()).or_default();
+        for counts in [&mut self.met, by_word] {
+            counts.get_mut(usize::from(refusal)).into_iter().for_each(|count| *count += 1);
         }
         let numbers: String = numbers.iter().map(|number| format!(" {number}")).collect();
         let output = output.map_or(String::new(), |output| self.shown("out", output));

@@ -1,7 +1,7 @@
 //! Generated histories, run and checked in one go.
 
 use crate::generator;
-use crate::refusal::HIGHEST;
+use crate::refusal::{Counts, OF_RESTORE};
 use crate::script::Session;
 use std::fmt;
 
@@ -13,7 +13,9 @@ pub struct Tally {
     /// Histories whose check said `history ok`.
     pub histories: u64,
     /// How often each refusal number was answered.
-    pub met: [u64; HIGHEST as usize + 1],
+    pub met: Counts,
+    /// The same for the restores alone.
+    pub restores: Counts,
     pub failures: Vec<String>,
 }
 
@@ -48,7 +50,17 @@ fn run_one(script: String, place: u64, tally: &mut Tally) {
     }
     tally.scripts += 1;
     tally.calls += session.calls;
-    tally.met.iter_mut().zip(session.met).for_each(|(sum, met)| *sum += met);
+    add(&mut tally.met, &session.met);
+    add(&mut tally.restores, &session.answers("restore"));
+}
+
+fn add(sums: &mut Counts, more: &Counts) {
+    sums.iter_mut().zip(more).for_each(|(sum, count)| *sum += count);
+}
+
+/// A line for each number that restore can answer.
+pub fn restore_table(counts: &Counts) -> String {
+    OF_RESTORE.iter().map(|number| format!("restore {number} met {}\n", counts[usize::from(*number)])).collect()
 }
 
 impl fmt::Display for Tally {
@@ -57,6 +69,7 @@ impl fmt::Display for Tally {
         for (number, met) in self.met.iter().enumerate() {
             writeln!(text, "refusal {number} met {met}")?;
         }
+        text.write_str(&restore_table(&self.restores))?;
         writeln!(text, "scripts {} calls {}", self.scripts, self.calls)
     }
 }

@@ -11,6 +11,7 @@ pub trait Store {
     fn create_file(&self, image: &mut [u8], path: &[u8], stamp: i64, bytes: &[u8]) -> Written;
     fn create_directory(&self, image: &mut [u8], path: &[u8], stamp: i64) -> Written;
     fn delete(&self, image: &mut [u8], path: &[u8], stamp: i64) -> Written;
+    fn restore(&self, image: &mut [u8], path: &[u8], stamp: i64) -> Written;
     fn reclaim(&self, image: &mut [u8], stamp: i64) -> Written;
     fn listing(&self, input: &[u8]) -> Vec<u8>;
 }
@@ -50,6 +51,10 @@ impl Store for Own {
 
     fn delete(&self, image: &mut [u8], path: &[u8], stamp: i64) -> Written {
         crate::delete(image, path, stamp)
+    }
+
+    fn restore(&self, image: &mut [u8], path: &[u8], stamp: i64) -> Written {
+        crate::restore(image, path, stamp)
     }
 
     fn reclaim(&self, image: &mut [u8], stamp: i64) -> Written {

@@ -36,9 +36,38 @@ impl<'a> Volume<'a> {
 
     /// The live entry of a path argument: refusals 10 and 11.
     pub fn lookup(&self, path: &[u8]) -> Result<&Entry<'a>, Refusal> {
-        if !names::path_allowed(path) {
-            return Err(refusal::BAD_NAME);
-        }
+        judge_path(path)?;
         self.live.get(path).ok_or(refusal::NOT_LIVE)
+    }
+
+    /// The deleted entries of a path argument, one at least: refusals 10 and 11.
+    pub fn lookup_deleted(&self, path: &[u8]) -> Result<Vec<&Entry<'a>>, Refusal> {
+        judge_path(path)?;
+        let deleted: Vec<&Entry> =
+            self.index.entries.iter().filter(|entry| entry.is_deleted() && entry.path == path).collect();
+        if deleted.is_empty() {
+            return Err(refusal::NOT_LIVE);
+        }
+        Ok(deleted)
+    }
+
+    /// Whether an entry of this path may become live: refusals 12 and 13.
+    pub fn judge_vacant(&self, path: &[u8]) -> Result<(), Refusal> {
+        if self.live.get(path).is_some() {
+            return Err(refusal::ALREADY_LIVE);
+        }
+        if !self.live.has_directory_for(path) {
+            return Err(refusal::NO_DIRECTORY);
+        }
+        Ok(())
+    }
+}
+
+/// Refusal 10 of a path that names an entry; only create bounds its length too.
+fn judge_path(path: &[u8]) -> Result<(), Refusal> {
+    if names::path_allowed(path) {
+        Ok(())
+    } else {
+        Err(refusal::BAD_NAME)
     }
 }

@@ -81,7 +81,7 @@ fn the_sixth_empty_file() {
 fn small_cases() {
     assert_eq!(format(&mut vec![0; 4096], 256, 1, b"", 0).refusal, 5);
     assert_eq!(format(&mut vec![0; 4096], 256, 2, b"", 0).refusal, 0);
-    assert_eq!(all_calls(&[], b"f"), [1; 8]);
+    assert_eq!(all_calls(&[], b"f"), [1; 9]);
     assert_eq!(format(&mut [], 512, 2, b"", 0).refusal, 1);
     let mut image = fresh(4096, 512, 1);
     mkfile(&mut image, b"f", b"");

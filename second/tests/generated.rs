@@ -2,9 +2,12 @@
 
 use second::generator;
 use second::history::{History, Told};
+use second::refusal::{Counts, OF_RESTORE};
 use second::script::{digest, lent, Session};
 use second::selftest;
+use second::superblock::Geometry;
 use second::xorshift::{fill, Xorshift};
+use std::collections::{BTreeMap, HashMap};
 
 #[test]
 fn histories_hold() {
@@ -19,7 +22,7 @@ fn histories_hold() {
 
 #[test]
 fn scripts_are_the_same_every_time() {
-    for kind in ["history", "damage", "built", "edges", "args", "names"] {
+    for kind in ["history", "damage", "built", "edges", "args", "names", "restore"] {
         let script = generator::script(3, 200, Some(kind));
         assert!(script.as_ref().is_some_and(|script| script.len() > 1000));
         assert_eq!(script, generator::script(3, 200, Some(kind)));
@@ -51,14 +54,17 @@ fn named_calls(kind: &str) -> Vec<NamedCall> {
         let words: Vec<&str> = line.split(' ').collect();
         let name = match words[0] {
             "format" => words[3],
-            "find" | "read" | "mkfile" | "mkdir" | "delete" => words[1],
+            "find" | "read" | "mkfile" | "mkdir" | "delete" | "restore" => words[1],
             _ => continue,
         };
-        let digits = if name == "-" { "" } else { name };
-        let bytes = (0..digits.len()).step_by(2).map(|at| u8::from_str_radix(&digits[at..at + 2], 16).unwrap());
-        calls.push((words[0].to_string(), bytes.collect(), session.last));
+        calls.push((words[0].to_string(), unhex(name), session.last));
     }
     calls
+}
+
+fn unhex(word: &str) -> Vec<u8> {
+    let digits = if word == "-" { "" } else { word };
+    (0..digits.len()).step_by(2).map(|at| u8::from_str_radix(&digits[at..at + 2], 16).unwrap()).collect()
 }
 
 /// Whether a character of the name lies across the end of a slot of its entry.
@@ -74,7 +80,7 @@ fn met(calls: &[NamedCall], refusal: u8, test: impl Fn(&str, &[u8]) -> bool) -> 
 
 #[test]
 fn names_are_mixed() {
-    for kind in ["history", "built", "edges", "args", "names"] {
+    for kind in ["history", "built", "edges", "args", "names", "restore"] {
         let calls = named_calls(kind);
         let wide = |name: &[u8]| !name.is_ascii();
         let made = met(&calls, 0, |word, name| word.starts_with("mk") && wide(name));
@@ -128,6 +134,118 @@ fn names_with_every_fault() {
         assert!(met(&calls, 10, |_, name| faulty(name)) > 5, "{what}");
         assert_eq!(met(&calls, 0, |_, name| faulty(name)), 0, "{what}");
     }
+}
+
+/// How often the restores of a generated script answered each number.
+fn restore_answers(count: u64, kind: Option<&str>) -> Counts {
+    let mut session = Session::without_digests();
+    for line in generator::script(5, count, kind).unwrap_or_default().lines() {
+        session.execute(line).unwrap();
+    }
+    session.answers("restore")
+}
+
+#[test]
+fn restores_answer_every_number() {
+    let mixed = restore_answers(30_000, None);
+    println!("{}", selftest::restore_table(&mixed));
+    for (number, met) in mixed.iter().enumerate() {
+        let expected = OF_RESTORE.contains(&(number as u8));
+        assert_eq!(*met > 0, expected, "restore answered {number} {met} times");
+    }
+    // The image is whole there, so the other numbers come from elsewhere.
+    for kind in ["history", "restore"] {
+        let answers = restore_answers(20_000, Some(kind));
+        assert!([0, 10, 11, 12, 13, 19].iter().all(|number| answers[*number] > 20), "{kind}: {answers:?}");
+    }
+}
+
+/// What a restore is to undo.
+struct Deleted {
+    /// The calls so far, and the size of the index area.
+    calls: u64,
+    index: u64,
+    /// The digest of the image before the delete.
+    image: u64,
+    /// Whether a restore has failed for want of the directory.
+    homeless: bool,
+}
+
+fn index_size(session: &Session) -> u64 {
+    Geometry::stored(session.image()).map_or(0, |geometry| geometry.index)
+}
+
+/// In what situations an accepted restore came.
+fn situations(session: &Session, path: &[u8], deleted: &Deleted) -> Vec<&'static str> {
+    let found = second::find(session.image(), path);
+    let all = [
+        ("at once", session.calls == deleted.calls + 1),
+        ("later", session.calls > deleted.calls + 1),
+        ("index grown", index_size(session) > deleted.index),
+        ("to the byte", digest(session.image()) == deleted.image),
+        ("after its directory", deleted.homeless),
+        ("directory", found.kind == 0x11),
+        ("file with blocks", found.end > 0),
+        ("long name", path.len() > 93),
+    ];
+    all.into_iter().filter(|(_, holds)| *holds).map(|(name, _)| name).collect()
+}
+
+fn count_situations(kind: &str) -> BTreeMap<&'static str, u64> {
+    let mut session = Session::without_digests();
+    let mut deleted = HashMap::new();
+    let mut counts = BTreeMap::new();
+    for line in generator::script(6, 12_000, Some(kind)).unwrap_or_default().lines() {
+        let words: Vec<&str> = line.split(' ').collect();
+        let (calls, index, image) = (session.calls + 1, index_size(&session), digest(session.image()));
+        session.execute(line).unwrap();
+        let path = words.get(1).copied().unwrap_or_default().to_string();
+        match (words[0], session.last) {
+            ("image" | "imagefill" | "format" | "poke", _) => deleted.clear(),
+            ("delete", 0) => drop(deleted.insert(path, Deleted { calls, index, image, homeless: false })),
+            ("restore", 13) => deleted.get_mut(&path).into_iter().for_each(|one| one.homeless = true),
+            ("restore", 0) => {
+                let one = deleted.remove(&path);
+                let names = one.map_or(Vec::new(), |one| situations(&session, &unhex(&path), &one));
+                names.iter().for_each(|name| *counts.entry(*name).or_default() += 1);
+            }
+            _ => {}
+        }
+    }
+    counts
+}
+
+#[test]
+fn restores_in_every_situation() {
+    for (kind, least) in [("restore", 20), ("history", 5)] {
+        let counts = count_situations(kind);
+        println!("{kind}: {counts:?}");
+        assert!(counts.len() == 8 && counts.values().all(|count| *count > least), "{kind}: {counts:?}");
+    }
+}
+
+#[test]
+fn restores_of_built_entries() {
+    let mut session = Session::without_digests();
+    let (mut long, mut spare) = (0, 0);
+    for line in generator::script(9, 12_000, Some("built")).unwrap_or_default().lines() {
+        session.execute(line).unwrap();
+        let words: Vec<&str> = line.split(' ').collect();
+        if words[0] != "restore" || session.last != 0 {
+            continue;
+        }
+        let path = unhex(words[1]);
+        let found = second::find(session.image(), &path);
+        let entry = session.image().len() - index_size(&session) as usize + 64 * found.slot as usize;
+        let first = if found.kind == 0x11 { 54 } else { 30 };
+        let needed = (path.len() + 1).saturating_sub(first).div_ceil(64);
+        long += u64::from(path.len() > 285);
+        spare += u64::from(usize::from(session.image()[entry + 1]) > needed);
+    }
+    println!("built: long {long} spare {spare}");
+    assert!(long > 10 && spare > 10, "{long} {spare}");
+    let answers = session.answers("restore");
+    assert!([12, 13, 19].iter().all(|number| answers[*number] > 10), "{answers:?}");
 }
 
 /// Runs a script and gives the lines it prints.
@@ -186,7 +304,7 @@ fn lines_that_cannot_be_read() {
 fn any_image_gets_an_answer() {
     // A good super-block before random index bytes of low values, so that the walk goes far.
     let mut rng = Xorshift::new(99);
-    let mut met = [0; 19];
+    let mut met = Counts::default();
     for round in 0..4_000 {
         let mut session = Session::default();
         let mut lines = vec!["image 2048".to_string(), "format 256 2 - 0".to_string()];
@@ -203,6 +321,7 @@ fn any_image_gets_an_answer() {
                 "read 41 99",
                 "mkfile 42 1 fill:300:1",
                 "delete 41 1",
+                "restore 41 1",
                 "reclaim 1",
                 "listing",
             ]

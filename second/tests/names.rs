@@ -89,14 +89,14 @@ fn arguments() {
     let mut image = fresh(8192, 512, 1);
     assert_eq!(mkdir(&mut image, b"d"), 0);
     for name in GOOD.into_iter().flat_map(placed) {
-        assert_eq!(all_calls(&image, &name), [0, 11, 0, 11, 0, 0, 11, 0], "{name:x?}");
-        assert_eq!(all_calls(&image, &[b"d/", &name[..]].concat()), [0, 11, 0, 11, 0, 0, 11, 0], "{name:x?}");
+        assert_eq!(all_calls(&image, &name), [0, 11, 0, 11, 0, 0, 11, 11, 0], "{name:x?}");
+        assert_eq!(all_calls(&image, &[b"d/", &name[..]].concat()), [0, 11, 0, 11, 0, 0, 11, 11, 0], "{name:x?}");
         assert_eq!(find(&image, &[&name[..], b"/d"].concat()).refusal, 11, "{name:x?}");
         assert_eq!(formats(&name), 0, "{name:x?}");
     }
     for name in BAD.into_iter().flat_map(placed) {
-        assert_eq!(all_calls(&image, &name), [0, 10, 0, 10, 10, 10, 10, 0], "{name:x?}");
-        assert_eq!(all_calls(&image, &[b"d/", &name[..]].concat()), [0, 10, 0, 10, 10, 10, 10, 0], "{name:x?}");
+        assert_eq!(all_calls(&image, &name), [0, 10, 0, 10, 10, 10, 10, 10, 0], "{name:x?}");
+        assert_eq!(all_calls(&image, &[b"d/", &name[..]].concat()), [0, 10, 0, 10, 10, 10, 10, 10, 0], "{name:x?}");
         assert_eq!(find(&image, &[&name[..], b"/d"].concat()).refusal, 10, "{name:x?}");
         assert_eq!(formats(&name), 10, "{name:x?}");
     }

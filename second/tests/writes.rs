@@ -6,11 +6,6 @@ use common::*;
 use second::superblock::{DATA, STAMP};
 use second::{create_directory, create_file, delete, find, format, list, open, read, reclaim};
 
-/// The byte offsets at which two images differ.
-fn changed(before: &[u8], after: &[u8]) -> Vec<usize> {
-    (0..before.len()).filter(|at| before[*at] != after[*at]).collect()
-}
-
 #[test]
 fn growth_moves_the_marker() {
     let mut image = vec![0xEE; 8192];

@@ -10,7 +10,8 @@ pub fn scene(w: &mut Writer) {
     w.mkdir(b"a");
     w.mkfile(b"a/b", 700);
     w.mkfile(b"\xc3\xa9", 3);
-    for _ in 0..12 {
+    gone(w);
+    for _ in 0..14 {
         path_argument(w);
     }
     for _ in 0..4 {
@@ -23,26 +24,39 @@ pub fn scene(w: &mut Writer) {
     w.put("history".to_string());
 }
 
+/// Deleted entries: one of each kind, and at times a second one of the first path.
+fn gone(w: &mut Writer) {
+    w.mkfile(b"\xc3\xa8", 4);
+    w.mkdir(b"a/old");
+    w.delete(b"\xc3\xa8");
+    w.delete(b"a/old");
+    if w.rng.chance(30) {
+        w.mkdir(b"\xc3\xa8");
+        w.delete(b"\xc3\xa8");
+    }
+}
+
 fn path_argument(w: &mut Writer) {
-    let path = match w.rng.below(10) {
+    let path = match w.rng.below(11) {
         0..=6 => odd_path(&mut w.rng),
-        7 => near_live(w),
-        _ => w.rng.pick(&[b"a".as_slice(), b"a/b", b"\xc3\xa9"]).to_vec(),
+        7 | 8 => near_known(w),
+        _ => w.rng.pick(&[b"a".as_slice(), b"a/b", b"\xc3\xa9", b"a/old", b"\xc3\xa8"]).to_vec(),
     };
-    match w.rng.below(6) {
+    match w.rng.below(8) {
         0 => w.find(&path),
         1 => w.read(&path),
         2 => w.delete(&path),
         3 => w.mkdir(&path),
         4 => w.mkfile(&path, 9),
+        5 | 6 => w.restore(&path),
         _ => w.put(format!("read {} 0", hex(&path))),
     };
 }
 
-/// A live path with one byte more, one less, or another.
-fn near_live(w: &mut Writer) -> Vec<u8> {
-    let live = w.live();
-    let mut path = w.rng.pick(&live).path;
+/// A live or deleted path with one byte more, one less, or another.
+fn near_known(w: &mut Writer) -> Vec<u8> {
+    let known = [w.live(), w.deleted()].concat();
+    let mut path = w.rng.pick(&known).path;
     let byte = w.rng.byte();
     match w.rng.below(3) {
         0 => path.push(byte),

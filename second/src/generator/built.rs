@@ -1,7 +1,8 @@
 //! Images built slot by slot, with what no call of ours would leave: unusable entries, odd unused
-//! types, long names, runs longer than their names, gaps between regions, newer versions.
+//! types, long names, runs longer than their names, gaps between regions, newer versions, deleted
+//! entries of a path by the two and three or without their directory.
 
-use super::{least_reserved, odd_path, path_of_length, text, volume_name, Writer};
+use super::{least_reserved, odd_path, path_of_length, text, volume_name, Known, Writer};
 use crate::bytes::put;
 use crate::index::{DELETED_DIRECTORY, DELETED_FILE, DIRECTORY, FILE, IDENTIFIER, MARKER, UNUSABLE, UNUSED};
 use crate::superblock::{self, Geometry, CHECKSUM, MOST_INDEX, VERSION};
@@ -20,6 +21,8 @@ struct Builder {
     /// What fills the bytes that nobody judges.
     rubbish: u8,
     directories: Vec<Vec<u8>>,
+    /// Paths of deleted entries.
+    deleted: Vec<Vec<u8>>,
 }
 
 pub fn scene(w: &mut Writer) {
@@ -34,7 +37,7 @@ pub fn scene(w: &mut Writer) {
         builder.spoil(&mut w.rng);
     }
     w.put(format!("image {}", builder.image.len()));
-    w.restore(&builder.image);
+    w.poke_back(&builder.image);
     probe(w);
 }
 
@@ -50,11 +53,12 @@ fn nearly_full_index(w: &mut Writer) {
     builder.rubbish = 0;
     while builder.slot < geometry.slots() - 1 {
         let slots = (geometry.slots() - 1 - builder.slot).min(256);
-        let kind = w.rng.pick(&[FILE, DIRECTORY, DELETED_DIRECTORY]);
+        let kind = w.rng.pick(&[FILE, DIRECTORY, DELETED_DIRECTORY, DELETED_FILE]);
         builder.entry(kind, slots, &[], (0, 0, 0));
     }
     w.put(format!("image {image}"));
-    w.restore(&builder.image);
+    w.poke_back(&builder.image);
+    bring_back(w);
     for _ in 0..5 {
         let length = w.rng.pick(&[1, 29, 30, 93, 94, 157, 158, 285]);
         let serial = w.serial();
@@ -62,7 +66,9 @@ fn nearly_full_index(w: &mut Writer) {
         let room = w.rng.pick(&[0, 0, 1, block, 20_000]);
         w.mkfile(&path, room);
     }
+    bring_back(w);
     w.reclaim();
+    bring_back(w);
     w.list_all(2);
 }
 
@@ -105,6 +111,7 @@ impl Builder {
             path: b"0".to_vec(),
             rubbish,
             directories: vec![Vec::new()],
+            deleted: Vec::new(),
         }
     }
 
@@ -148,20 +155,39 @@ impl Builder {
         (start, end)
     }
 
-    fn named(&mut self, rng: &mut Xorshift, kind: u8) {
-        let directory = rng.pick(&self.directories);
-        // A deleted entry may have the path of a live one.
-        let repeated = matches!(kind, DELETED_FILE | DELETED_DIRECTORY) && rng.chance(30);
-        if !repeated {
-            self.serial += 1;
-            let length = if rng.chance(70) { 0 } else { rng.pick(&[29, 30, 53, 54, 94, 285, 286, 300, 414, 700]) };
-            self.path = path_of_length(rng, &directory, length, self.serial);
+    /// A path of its own. A deleted entry may also have that of a live one or of other deleted ones, or lie where no
+    /// directory is.
+    fn choose_path(&mut self, rng: &mut Xorshift, deleted: bool) {
+        match rng.below(20) {
+            0..=2 if deleted => return,
+            3..=6 if deleted && !self.deleted.is_empty() => {
+                self.path = rng.pick(&self.deleted);
+                return;
+            }
+            _ => {}
         }
+        let missing = deleted && rng.chance(20);
+        let directory = if missing { self.missing_directory(rng) } else { rng.pick(&self.directories) };
+        self.serial += 1;
+        let length = if rng.chance(70) { 0 } else { rng.pick(&[29, 30, 53, 54, 94, 285, 286, 300, 414, 700]) };
+        self.path = path_of_length(rng, &directory, length, self.serial);
+    }
+
+    /// What is no live directory, though a restore may make it one.
+    fn missing_directory(&self, rng: &mut Xorshift) -> Vec<u8> {
+        let mut choices: Vec<Vec<u8>> = self.deleted.iter().filter(|path| path.len() < 120).cloned().collect();
+        choices.push(b"missing".to_vec());
+        rng.pick(&choices)
+    }
+
+    fn named(&mut self, rng: &mut Xorshift, kind: u8) {
+        let deleted = matches!(kind, DELETED_FILE | DELETED_DIRECTORY);
+        self.choose_path(rng, deleted);
         let path = self.path.clone();
         let is_file = matches!(kind, FILE | DELETED_FILE);
         let first = if is_file { 30 } else { 54 };
         let needed = 1 + (path.len() + 1).saturating_sub(first).div_ceil(64) as u64;
-        let slots = needed + if rng.chance(15) { rng.below(3) } else { 0 };
+        let slots = needed + if rng.chance(if deleted { 25 } else { 15 }) { rng.below(3) } else { 0 };
         if self.slot + slots > self.geometry.slots() - 1 {
             return self.unused(rng);
         }
@@ -173,8 +199,10 @@ impl Builder {
             numbers = (start, end, rng.pick(&[room, room, room.saturating_sub(1), 0, part]));
         }
         self.entry(kind, slots, &path, numbers);
-        if kind == DIRECTORY && path.len() < 120 {
-            self.directories.push(path);
+        match kind {
+            DIRECTORY if path.len() < 120 => self.directories.push(path),
+            DELETED_FILE | DELETED_DIRECTORY => self.deleted.push(path),
+            _ => {}
         }
     }
 
@@ -222,15 +250,17 @@ fn probe(w: &mut Writer) {
     w.open();
     w.list_all(6);
     w.put("listing".to_string());
-    let steps = 6 + w.rng.below(10);
+    let steps = 8 + w.rng.below(12);
     for _ in 0..steps {
         let live = w.live();
         let mut known = w.rng.pick(&live);
         if w.rng.chance(5) {
             known.path.push(b'!');
         }
-        match w.rng.below(13) {
+        match w.rng.below(18) {
             12 => w.mkdir(&known.path),
+            13..=16 => bring_back(w),
+            17 => w.restore(&known.path),
             0 => w.find(&known.path),
             1 | 2 => w.read(&known.path),
             3 => w.delete(&known.path),
@@ -246,6 +276,20 @@ fn probe(w: &mut Writer) {
     w.list_all(4);
     w.put("listing".to_string());
     w.put("history".to_string());
+}
+
+/// Restores a deleted entry, or deletes a live one and undoes it to the byte.
+fn bring_back(w: &mut Writer) -> u8 {
+    let deleted = w.deleted();
+    if !deleted.is_empty() && w.rng.chance(75) {
+        let Known { path, directory, .. } = w.rng.pick(&deleted);
+        let refused = w.restore(&path);
+        return if refused == 0 && !directory { w.read(&path) } else { refused };
+    }
+    let live = w.live();
+    let Known { path, stamp, .. } = w.rng.pick(&live);
+    w.delete(&path);
+    w.restore_at(&path, stamp)
 }
 
 fn create(w: &mut Writer, directory: bool) -> u8 {

@@ -11,6 +11,7 @@ struct Healthy {
     geometry: Geometry,
     spots: Vec<Spot>,
     live: Vec<Known>,
+    deleted: Vec<Known>,
     volume_name: Vec<u8>,
 }
 
@@ -33,7 +34,7 @@ pub fn scene(w: &mut Writer) {
     for _ in 0..rounds {
         damage(w, &healthy);
         probe(w, &healthy);
-        w.restore(&healthy.image);
+        w.poke_back(&healthy.image);
     }
     w.put("history".to_string());
 }
@@ -57,6 +58,10 @@ fn volume(w: &mut Writer, block: u64) -> Option<Healthy> {
     w.mkdir(&[b"d/".to_vec(), long].concat());
     w.delete(&gone);
     w.delete(&old);
+    if w.rng.chance(20) {
+        w.mkdir(&gone);
+        w.delete(&gone);
+    }
     if w.rng.chance(50) {
         unusable(w);
     }
@@ -85,8 +90,14 @@ fn healthy(w: &Writer) -> Option<Healthy> {
         slot: entry.slot,
         name: entry.path.to_vec(),
     });
-    let volume_name = volume.index.volume_name.to_vec();
-    Some(Healthy { image: w.image().to_vec(), geometry, spots: spots.collect(), live: w.live(), volume_name })
+    Some(Healthy {
+        image: w.image().to_vec(),
+        geometry,
+        spots: spots.collect(),
+        live: w.live(),
+        deleted: w.deleted(),
+        volume_name: volume.index.volume_name.to_vec(),
+    })
 }
 
 fn damage(w: &mut Writer, healthy: &Healthy) {
@@ -267,9 +278,10 @@ fn anywhere(w: &mut Writer, healthy: &Healthy) {
 fn probe(w: &mut Writer, healthy: &Healthy) {
     w.open();
     let path = w.rng.pick(&healthy.live).path;
+    let gone = w.rng.pick(&healthy.deleted).path;
     let serial = w.serial().to_string().into_bytes();
-    for _ in 0..3 {
-        match w.rng.below(9) {
+    for _ in 0..4 {
+        match w.rng.below(12) {
             0 => w.find(&path),
             1 | 2 => w.read(&path),
             3 => w.mkfile(&serial, 1),
@@ -277,6 +289,8 @@ fn probe(w: &mut Writer, healthy: &Healthy) {
             5 => w.delete(&path),
             6 => w.reclaim(),
             7 => w.put("listing".to_string()),
+            8 => w.restore(&path),
+            9 | 10 => w.restore(&gone),
             _ => {
                 w.list_all(3);
                 0

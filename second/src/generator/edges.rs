@@ -18,6 +18,9 @@ pub fn scene(w: &mut Writer) {
         w.put(format!("imagefill {length} {seed}"));
     }
     w.put("open 0".to_string());
+    if length < LARGE && w.rng.chance(30) {
+        w.restore(b"f");
+    }
     let block = 256 << if w.rng.chance(50) { 0 } else { w.rng.below(5) };
     let total = length / block;
     let least = least_reserved(block);
@@ -47,6 +50,8 @@ fn outputs(w: &mut Writer, name: u64, block: u64) {
     let length = w.rng.pick(&[0, 1, block - 1, block]);
     if w.mkfile(b"f", length) == 0 {
         around(w, &format!("read {}", hex(b"f")), length);
+        w.delete(b"f");
+        w.restore(b"f");
     }
     let length = w.rng.pick(&[1, 29, 30, 93, 94, 285]);
     let path = if w.rng.chance(50) { vec![b'p'; length] } else { text::of_length(&mut w.rng, length) };
@@ -57,6 +62,10 @@ fn outputs(w: &mut Writer, name: u64, block: u64) {
         around(w, "list 2", path.len() as u64);
     }
     w.put("read 66 17000".to_string());
+    w.delete(&path);
+    if w.rng.chance(50) {
+        w.restore(&path);
+    }
 }
 
 fn around(w: &mut Writer, command: &str, needed: u64) {
@@ -71,6 +80,7 @@ fn cut(w: &mut Writer, length: u64) {
     w.put(format!("truncate {other}"));
     w.open();
     w.find(b"f");
+    w.restore(b"f");
     w.reclaim();
     w.put(format!("truncate {length}"));
     w.open();

@@ -1,7 +1,7 @@
 //! Histories: a format, then calls of all sorts until slots or blocks run out, then a look at
 //! everything that is left and the check of the history.
 
-use super::{least_reserved, odd_path, path_of_length, text, volume_name, Writer};
+use super::{least_reserved, odd_path, path_of_length, restore, text, volume_name, Writer};
 use crate::script::hex;
 
 /// What the calls of one history mostly are.
@@ -40,7 +40,7 @@ pub fn scene(w: &mut Writer) {
 }
 
 /// An image, at times full of stale bytes, and an accepted format.
-fn begin(w: &mut Writer, block: u64) {
+pub fn begin(w: &mut Writer, block: u64) {
     let least = least_reserved(block);
     let spare = if w.rng.chance(75) { w.rng.below(12) } else { w.rng.below(60) };
     let total = (least + 2 + spare).min(65_536 / block);
@@ -69,11 +69,13 @@ fn step(w: &mut Writer, mode: Mode, block: u64) {
         _ => {}
     }
     match w.rng.below(100) {
-        0..=34 => create_file(w, block),
-        35..=44 => create_directory(w),
-        45..=66 => delete(w),
-        67..=82 => look(w),
-        83..=86 => again(w),
+        0..=26 => create_file(w, block),
+        27..=35 => create_directory(w),
+        36..=52 => delete(w),
+        53..=64 => bring_back(w),
+        65..=70 => restore::story(w),
+        71..=83 => look(w),
+        84..=86 => again(w),
         87 => reformat(w, block),
         88..=91 => odd(w),
         _ => plain(w),
@@ -103,6 +105,17 @@ fn some_live(w: &mut Writer) -> Vec<u8> {
     w.rng.pick(&live).path
 }
 
+/// A deleted entry's path; if there is none, a live one is deleted.
+fn some_deleted(w: &mut Writer) -> Vec<u8> {
+    let deleted = w.deleted();
+    if deleted.is_empty() {
+        let path = some_live(w);
+        w.delete(&path);
+        return path;
+    }
+    w.rng.pick(&deleted).path
+}
+
 fn new_path(w: &mut Writer) -> Vec<u8> {
     match w.rng.below(20) {
         0..=5 => w.rng.pick(&POOL).as_bytes().to_vec(),
@@ -121,13 +134,13 @@ fn new_path(w: &mut Writer) -> Vec<u8> {
 }
 
 /// A path of its own in some live directory.
-fn path_somewhere(w: &mut Writer, length: usize) -> Vec<u8> {
+pub fn path_somewhere(w: &mut Writer, length: usize) -> Vec<u8> {
     let directory = some_directory(w);
     let serial = w.serial();
     path_of_length(&mut w.rng, &directory, length, serial)
 }
 
-fn free_blocks(w: &Writer) -> u64 {
+pub fn free_blocks(w: &Writer) -> u64 {
     let geometry = w.geometry();
     geometry.and_then(|geometry| geometry.ceiling()?.checked_sub(geometry.data_end())).unwrap_or(0)
 }
@@ -187,6 +200,25 @@ fn delete(w: &mut Writer) {
         // The same path again, while the deleted entry still holds its slots and blocks.
         w.mkfile(&path, 5);
     }
+    if w.rng.chance(15) {
+        w.restore(&path);
+    }
+}
+
+/// Brings back what is deleted; at times what is live too, or was never there.
+fn bring_back(w: &mut Writer) {
+    let path = match w.rng.below(20) {
+        0..=15 => some_deleted(w),
+        16 | 17 => some_live(w),
+        _ => new_path(w),
+    };
+    let refused = w.restore(&path);
+    if refused == 0 && w.rng.chance(40) {
+        w.read(&path);
+    }
+    if refused == 0 && w.rng.chance(20) {
+        w.delete(&path);
+    }
 }
 
 fn look(w: &mut Writer) {
@@ -224,7 +256,7 @@ fn odd(w: &mut Writer) {
 }
 
 /// Looks at everything live, by each call that can, and asks for the check.
-fn closing(w: &mut Writer) {
+pub fn closing(w: &mut Writer) {
     w.list_all(12);
     for known in w.live().iter().take(8) {
         w.find(&known.path);

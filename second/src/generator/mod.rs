@@ -7,6 +7,7 @@ mod damage;
 mod edges;
 mod history;
 mod names;
+mod restore;
 mod text;
 
 use crate::index::Entry;
@@ -18,13 +19,14 @@ use crate::xorshift::Xorshift;
 type Scene = fn(&mut Writer);
 
 /// The families of scenes, with the weight each has in a mixed script.
-const FAMILIES: [(&str, u64, Scene); 6] = [
+const FAMILIES: [(&str, u64, Scene); 7] = [
     ("history", 40, history::scene),
     ("damage", 20, damage::scene),
     ("built", 20, built::scene),
     ("edges", 8, edges::scene),
     ("args", 12, args::scene),
     ("names", 12, names::scene),
+    ("restore", 20, restore::scene),
 ];
 
 /// A script of about `count` calls, of one family or mixed; nothing when there is no such family.
@@ -52,13 +54,14 @@ pub fn one(seed: u64, place: u64) -> String {
     writer.script
 }
 
-/// A live entry, owned.
+/// A live or deleted entry, owned.
 #[derive(Clone, Debug, Default)]
 pub struct Known {
     pub path: Vec<u8>,
     pub directory: bool,
     pub length: u64,
     pub slot: u64,
+    pub stamp: i64,
 }
 
 /// Writes a script while following it.
@@ -118,8 +121,17 @@ impl Writer {
 
     /// The live entries in slot order, none if the image does not open.
     pub fn live(&self) -> Vec<Known> {
+        self.entries(|entry| entry.is_live())
+    }
+
+    /// The deleted entries likewise.
+    pub fn deleted(&self) -> Vec<Known> {
+        self.entries(|entry| entry.is_deleted())
+    }
+
+    fn entries(&self, wanted: fn(&Entry) -> bool) -> Vec<Known> {
         let entries = Volume::judge(self.image()).map(|volume| volume.index.entries).unwrap_or_default();
-        entries.iter().filter(|entry| entry.is_live()).map(known).collect()
+        entries.iter().filter(|entry| wanted(entry)).map(known).collect()
     }
 
     /// A number not given before in this script.
@@ -147,7 +159,7 @@ impl Writer {
     }
 
     /// Pokes until the image is `wanted`; both have one length.
-    pub fn restore(&mut self, wanted: &[u8]) {
+    pub fn poke_back(&mut self, wanted: &[u8]) {
         for at in (0..wanted.len()).step_by(64) {
             let end = wanted.len().min(at + 64);
             if self.image().get(at..end) != wanted.get(at..end) {
@@ -181,11 +193,12 @@ impl Writer {
 
     /// One of the calls that take a path.
     pub fn any_call(&mut self, path: &[u8]) {
-        match self.rng.below(5) {
+        match self.rng.below(6) {
             0 => self.find(path),
             1 => self.read(path),
             2 => self.mkdir(path),
             3 => self.delete(path),
+            4 => self.restore(path),
             _ => self.mkfile(path, 3),
         };
     }
@@ -208,6 +221,16 @@ impl Writer {
     pub fn delete(&mut self, path: &[u8]) -> u8 {
         let stamp = self.stamp();
         self.put(format!("delete {} {stamp}", hex(path)))
+    }
+
+    pub fn restore(&mut self, path: &[u8]) -> u8 {
+        let stamp = self.stamp();
+        self.restore_at(path, stamp)
+    }
+
+    /// With the stamp it had, a deleted entry is as before its delete.
+    pub fn restore_at(&mut self, path: &[u8], stamp: i64) -> u8 {
+        self.put(format!("restore {} {stamp}", hex(path)))
     }
 
     pub fn reclaim(&mut self) -> u8 {
@@ -260,7 +283,8 @@ impl Writer {
 }
 
 fn known(entry: &Entry) -> Known {
-    Known { path: entry.path.to_vec(), directory: entry.kind == 0x11, length: entry.length, slot: entry.slot }
+    let Entry { length, slot, stamp, .. } = *entry;
+    Known { path: entry.path.to_vec(), directory: !entry.is_file(), length, slot, stamp }
 }
 
 /// Short path arguments that are refused, or look as if they should be.

@@ -17,7 +17,7 @@ pub fn scene(w: &mut Writer) {
         match w.rng.below(10) {
             0..=4 => allowed(w),
             5..=8 => refused(w),
-            _ => near_live(w),
+            _ => near_known(w),
         }
     }
     w.list_all(8);
@@ -26,7 +26,7 @@ pub fn scene(w: &mut Writer) {
     let whole = w.image().to_vec();
     for _ in 0..6 {
         stored(w);
-        w.restore(&whole);
+        w.poke_back(&whole);
     }
 }
 
@@ -50,7 +50,7 @@ fn begin(w: &mut Writer) {
     w.mkdir(b"\xc3\x80");
 }
 
-/// An allowed path: made, found, listed, and at times deleted, reclaimed and made again.
+/// An allowed path: made, found, listed, and at times deleted, reclaimed, made again and brought back.
 fn allowed(w: &mut Writer) {
     let path = allowed_path(w);
     let made = if w.rng.chance(60) { w.mkfile(&path, 3) } else { w.mkdir(&path) };
@@ -65,6 +65,10 @@ fn allowed(w: &mut Writer) {
     if w.rng.chance(40) {
         w.mkdir(&path);
         w.open();
+    }
+    if w.rng.chance(40) {
+        w.restore(&path);
+        w.find(&path);
     }
 }
 
@@ -109,10 +113,10 @@ fn refused_path(w: &mut Writer) -> Vec<u8> {
     }
 }
 
-/// A live path with its last byte lost, one byte changed, or a tail too many.
-fn near_live(w: &mut Writer) {
-    let live = w.live();
-    let mut path = w.rng.pick(&live).path;
+/// A live or deleted path with its last byte lost, one byte changed, or a tail too many.
+fn near_known(w: &mut Writer) {
+    let known = [w.live(), w.deleted()].concat();
+    let mut path = w.rng.pick(&known).path;
     let places = text::wide_places(&path);
     let byte = w.rng.byte();
     match w.rng.below(3) {
@@ -121,6 +125,7 @@ fn near_live(w: &mut Writer) {
         _ => path.iter_mut().skip(w.rng.pick(&places)).take(1).for_each(|old| *old = byte),
     }
     w.find(&path);
+    w.restore(&path);
     w.mkfile(&path, 0);
 }
 
@@ -133,10 +138,11 @@ fn stored(w: &mut Writer) {
     }
     w.damage_name(at, &name);
     w.open();
-    match w.rng.below(4) {
+    match w.rng.below(6) {
         0 => w.find(&name),
         1 => w.put("listing".to_string()),
         2 => w.mkdir(b"new"),
+        3 | 4 => w.restore(&name),
         _ => w.put("list 0 285".to_string()),
     };
 }

@@ -3,7 +3,8 @@
 
 use second::superblock::{self, CHECKSUM, DATA, INDEX};
 use second::{
-    create_directory, create_file, delete, find, format, list, open, read, reclaim, Found, Listed, Opened, Read,
+    create_directory, create_file, delete, find, format, list, open, read, reclaim, restore, Found, Listed, Opened,
+    Read,
 };
 
 /// A freshly formatted image of zeros.
@@ -57,9 +58,9 @@ pub fn opens(image: &[u8]) -> u8 {
     open(image, &mut [0; 51]).refusal
 }
 
-/// The refusal numbers of open, find, list, read, both creates, delete and reclaim, each called on
+/// The refusal numbers of open, find, list, read, both creates, delete, restore and reclaim, each called on
 /// the image as it is. Asserts that a refusal gives zeros and writes nothing anywhere.
-pub fn all_calls(image: &[u8], path: &[u8]) -> [u8; 8] {
+pub fn all_calls(image: &[u8], path: &[u8]) -> [u8; 9] {
     let opened = lend(|output| {
         let answer = open(image, output);
         (answer.refusal, answer == Opened { refusal: answer.refusal, ..Opened::default() })
@@ -77,8 +78,9 @@ pub fn all_calls(image: &[u8], path: &[u8]) -> [u8; 8] {
     let file = write(image, |image| create_file(image, path, 9, b"xyz").refusal);
     let directory = write(image, |image| create_directory(image, path, 9).refusal);
     let deleted = write(image, |image| delete(image, path, 9).refusal);
+    let restored = write(image, |image| restore(image, path, 9).refusal);
     let reclaimed = write(image, |image| reclaim(image, 9).refusal);
-    [opened, found.refusal, listed, got, file, directory, deleted, reclaimed]
+    [opened, found.refusal, listed, got, file, directory, deleted, restored, reclaimed]
 }
 
 /// Makes a call with an output of its own.
@@ -88,6 +90,11 @@ fn lend(call: impl Fn(&mut [u8]) -> (u8, bool)) -> u8 {
     let untouched = output.iter().all(|byte| *byte == 0xEE);
     assert!(refusal == 0 || (zeros && untouched), "refusal {refusal} gave more than its number");
     refusal
+}
+
+/// The byte offsets at which two images differ.
+pub fn changed(before: &[u8], after: &[u8]) -> Vec<usize> {
+    (0..before.len()).filter(|at| before[*at] != after[*at]).collect()
 }
 
 /// Makes a writing call on a copy.
