@@ -6,12 +6,12 @@ use Rattle.rules.specs.Utf8.{within, isCode, encode, encodeAll, tails, row, fir
 use Rattle.rules.specs.Names.{isMark, codeGood, codesGood, textGood, intoFirst, parts, partGood, pathGood, newPathGood, volumeTextGood, volumeNameGood, leadIf, leading, isBelow}
 use Rattle.rules.specs.Index.{fileType, directoryType, runType, liveType, deletedType, strayType, nameAt, runSlots, nameField, fileField, entryAt, unusableAt, nameGood, runAt, itemAt, followed, walk, walkAll, slotAt, innerSlots, itemsOf, entriesOf, isFault, identifierAt, volumeField, volumeName, volumeStamp, identifierGood, markerGood, indexSound, markerBytes, identifierBytes, unusedBytes, continuing, runBytes, retyped}
 use Rattle.rules.specs.Regions.{holds, blocksOf, withinData, fileRegionGood, regionGood, apart, regionsSound, heldBlocks, busy, runFree, lowestFrom, lowestFree, blocksNeeded}
-use Rattle.rules.specs.Paths.{isLive, isDeleted, liveAt, lookup, isDirectoryAt, directoryLive, directoriesLive, pathsDiffer, pathsSound, anyBelow, nextLive}
+use Rattle.rules.specs.Paths.{isLive, liveAt, isDeleted, deletedAt, lookup, isDirectoryAt, directoryLive, directoriesLive, pathsDiffer, pathsSound, anyBelow, nextLive}
 use Rattle.rules.specs.Refusals.{need, needFound, andThen, magicGood, versionGood, checksumGood, judgeIndex, judgeGeometry, judge}
 use Rattle.rules.specs.Outcome.{done, conclude, onVolume, noVolume, noEntry, numbersOf, noneListed}
 use Rattle.rules.specs.Reading.{volumeNumbers, openOf, findOf, fileBytes, readOf, listed, listOf}
-use Rattle.rules.specs.Writing.{freshGeometry, formatted, formatOf, kindOf, bytesOf, nearestLive, startsUnused, itemSlot, lowestUnused, mayGrow, grownPlace, placeFrom, placeRun, placeFile, newEntry, putMarker, created, createOf, deletedKind, deleted, deleteOf, cleared, leastEnd, reclaimOf}
-use Rattle.rules.specs.History.{passed, step, nothing, keptOf, marked, fed, feed, run, told}
+use Rattle.rules.specs.Writing.{freshGeometry, formatted, formatOf, kindOf, bytesOf, nearestLive, startsUnused, itemSlot, lowestUnused, mayGrow, grownPlace, placeFrom, placeRun, placeFile, newEntry, putMarker, created, createOf, deletedKind, deleted, deleteOf, liveKind, restored, restoreOf, cleared, leastEnd, reclaimOf}
+use Rattle.rules.specs.History.{passed, step, nothing, keptOf, marked, revived, fed, feed, run, told}
 use Rattle.rules.specs.Text.{digit, digits, decimal, widened}
 use Rattle.rules.specs.Dates.{floorDiv, floorMod, divides, leapYear, yearLength, monthLength, countOff, yearOff, monthOff, dateIn, dateOf, secondsOf, daysOf, secondOfDay, momentOf, yearText, twoDigits, momentText}
 use Rattle.rules.specs.Listing.{lineOf, linesOf, countLine, refusedLine, volumeText, listingOf}
@@ -31,14 +31,14 @@ unfolding
     volumeStamp identifierGood markerGood indexSound markerBytes identifierBytes unusedBytes continuing runBytes retyped
     holds blocksOf withinData fileRegionGood regionGood apart regionsSound heldBlocks busy runFree lowestFrom lowestFree
     blocksNeeded
-    isLive liveAt lookup isDirectoryAt directoryLive directoriesLive pathsDiffer pathsSound anyBelow nextLive
+    isLive liveAt isDeleted deletedAt lookup isDirectoryAt directoryLive directoriesLive pathsDiffer pathsSound anyBelow nextLive
     need needFound andThen magicGood versionGood checksumGood judgeIndex judgeGeometry judge
     done conclude onVolume noVolume noEntry numbersOf noneListed
     volumeNumbers openOf findOf fileBytes readOf listed listOf
     freshGeometry formatted formatOf kindOf bytesOf nearestLive startsUnused itemSlot lowestUnused mayGrow grownPlace
-    placeFrom placeRun placeFile newEntry putMarker created createOf deletedKind deleted deleteOf isDeleted cleared leastEnd
-    reclaimOf
-    passed step nothing keptOf marked fed feed run told
+    placeFrom placeRun placeFile newEntry putMarker created createOf deletedKind deleted deleteOf liveKind restored
+    restoreOf cleared leastEnd reclaimOf
+    passed step nothing keptOf marked revived fed feed run told
     digit digits decimal widened
     floorDiv floorMod divides leapYear yearLength monthLength countOff yearOff monthOff dateIn dateOf secondsOf daysOf
     secondOfDay momentOf yearText twoDigits momentText

@@ -10,8 +10,8 @@ use Rattle.rules.specs.Fields.{splice}
 use Rattle.rules.specs.Index.{typeFile, typeDirectory}
 use Rattle.rules.specs.Outcome.{done}
 use Rattle.rules.specs.Reading.{openOf, findOf, listOf, readOf}
-use Rattle.rules.specs.Writing.{newFile, newDirectory, formatOf, createOf, deleteOf, reclaimOf}
-use Rattle.rules.specs.History.{Call, format, openVolume, find, list, read, create, delete, reclaim, step, run, told, nothing}
+use Rattle.rules.specs.Writing.{newFile, newDirectory, formatOf, createOf, deleteOf, restoreOf, reclaimOf}
+use Rattle.rules.specs.History.{Call, format, openVolume, find, list, read, create, delete, restore, reclaim, step, run, told, nothing}
 use Rattle.rules.specs.Text.{text}
 use Rattle.rules.specs.Listing.{listingOf}
 use Rattle.cases.proofs.Computing.{everything}
@@ -26,6 +26,7 @@ refusalOf s (list slot out) = listOf s slot out .refusal
 refusalOf s (read path out) = readOf s path out .refusal
 refusalOf s (create new path stamp) = createOf s new path stamp .refusal
 refusalOf s (delete path stamp) = deleteOf s path stamp .refusal
+refusalOf s (restore path stamp) = restoreOf s path stamp .refusal
 refusalOf s (reclaim stamp) = reclaimOf s stamp .refusal
 
 unfoldable pub refusals : List ℕ → List Call → List ℕ
@@ -106,6 +107,68 @@ pub comeAndGo-bytes :
     ≡ splice (splice (splice small 0x194 (6 ∷ [])) 0x1A4 (192 ∷ [])) 1_344 ((0x02 ∷ blank 63) ++ (0x10 ∷ blank 63))
 unfolding everything
 comeAndGo-bytes = refl
+
+-- ---- what was deleted comes back until it is reclaimed: with the old stamp the image is what it was
+abbrev notice : List Call
+notice = formatSmall ∷ create (newFile (text "Closed")) (text "n") (pos 9) ∷ []
+
+pub same-afternoon : run (blank 1_536) (notice ++ (delete (text "n") (pos 10) ∷ restore (text "n") (pos 9) ∷ [])) ≡ run (blank 1_536) notice
+unfolding everything
+same-afternoon = refl
+
+-- restored, it is not given back at a reclaim; deleted again, it is
+pub notice-told :
+    told (blank 1_536) nothing (notice ++ (delete (text "n") (pos 10) ∷ restore (text "n") (pos 15) ∷ reclaim (pos 16) ∷ []))
+    ≡ record {
+      blockBytes = 512;
+      kept = record { path = text "n"; kind = typeFile; bytes = text "Closed"; blocks = 1; live = true } ∷ [];
+      granted = 1;
+      givenBack = 0;
+    }
+unfolding everything
+notice-told = refl
+
+pub notice-struck :
+    told (blank 1_536) nothing (notice ++ (delete (text "n") (pos 10) ∷ restore (text "n") (pos 15) ∷ delete (text "n") (pos 16) ∷ reclaim (pos 17) ∷ []))
+    ≡ record { blockBytes = 512; kept = []; granted = 1; givenBack = 1 }
+unfolding everything
+notice-struck = refl
+
+-- 11 of a live path and of none, 10, then 12 where it is live again, 19 of a file and a directory, 11 once both are reclaimed
+pub restore-refusals :
+    refusals (run (blank 1_536) notice) (
+    restore (text "n") (pos 10)
+    ∷ restore (text "m") (pos 10)
+    ∷ restore (text "n/") (pos 10)
+    ∷ delete (text "n") (pos 10)
+    ∷ create newDirectory (text "n") (pos 11)
+    ∷ restore (text "n") (pos 12)
+    ∷ delete (text "n") (pos 13)
+    ∷ restore (text "n") (pos 14)
+    ∷ reclaim (pos 15)
+    ∷ restore (text "n") (pos 16)
+    ∷ [])
+    ≡ 11 ∷ 11 ∷ 10 ∷ 0 ∷ 0 ∷ 12 ∷ 0 ∷ 19 ∷ 0 ∷ 11 ∷ []
+unfolding everything refusals refusalOf
+restore-refusals = refl
+
+-- a directory comes back without what was below it, which is 13 before
+pub restore-directory :
+    refusals (blank 1_536) (
+    formatSmall
+    ∷ create newDirectory (text "d") (pos 6)
+    ∷ create (newFile []) (text "d/f") (pos 7)
+    ∷ delete (text "d/f") (pos 8)
+    ∷ delete (text "d") (pos 9)
+    ∷ restore (text "d/f") (pos 10)
+    ∷ restore (text "d") (pos 11)
+    ∷ find (text "d/f")
+    ∷ restore (text "d/f") (pos 12)
+    ∷ find (text "d/f")
+    ∷ [])
+    ≡ 0 ∷ 0 ∷ 0 ∷ 0 ∷ 0 ∷ 13 ∷ 0 ∷ 11 ∷ 0 ∷ 0 ∷ []
+unfolding everything refusals refusalOf
+restore-directory = refl
 
 -- ---- the last block: where a file holds it the index cannot grow into it, until the file is deleted and reclaimed
 abbrev empty : String → Call
@@ -201,9 +264,10 @@ pub empty-image :
     ∷ read [] []
     ∷ create newDirectory [] (pos 0)
     ∷ delete [] (pos 0)
+    ∷ restore [] (pos 0)
     ∷ reclaim (pos 0)
     ∷ [])
-    ≡ replicate 8 1
+    ≡ replicate 9 1
 unfolding everything refusals refusalOf
 empty-image = refl
 
@@ -353,10 +417,11 @@ pub later-version :
     ∷ read (text "d") []
     ∷ create newDirectory [] (pos 3)
     ∷ delete (text "none") (pos 4)
+    ∷ restore (text "none") (pos 4)
     ∷ reclaim (pos 5)
     ∷ format 512 1 [] (pos 6)
     ∷ [])
-    ≡ 0 ∷ 0 ∷ 0 ∷ 17 ∷ 9 ∷ 9 ∷ 9 ∷ 0 ∷ []
+    ≡ 0 ∷ 0 ∷ 0 ∷ 17 ∷ 9 ∷ 9 ∷ 9 ∷ 9 ∷ 0 ∷ []
 unfolding everything refusals refusalOf
 later-version = refl
 
