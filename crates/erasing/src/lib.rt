@@ -18,14 +18,14 @@ ghost use Rattle.geometry.specs.View.{geometryView};
 ghost use Rattle.index.specs.Steps.{Walks, entriesFrom};
 ghost use Rattle.slots.specs.View.{HeadIn};
 ghost use Rattle.judging.specs.View.{Opened};
-ghost use Rattle.retyping.specs.Planned.{Planned};
+ghost use Rattle.retyping.specs.Planned.{RetypePlanned};
 ghost use Rattle.erasing.specs.Reclaim.{headCleared, reclaimed};
 
 // ---- delete
 
 fn plan_entry(img: &[u8], g: Geometry, path: &[u8]) -> Retyping
     requires { ⌜ Opened (now img) g ⌝ }
-    ensures { λ r. ⌜ Planned (now (img .entry)) (deleteOf (now (img .entry)) (now (path .entry))) r ⌝ }
+    ensures { λ r. ⌜ RetypePlanned (now (img .entry)) (deleteOf (now (img .entry)) (now (path .entry))) r ⌝ }
 {
     if !g.is_writable() {
         return Retyping::Refused(9);
@@ -46,7 +46,7 @@ fn plan_entry(img: &[u8], g: Geometry, path: &[u8]) -> Retyping
 }
 
 fn plan_delete(img: &[u8], path: &[u8]) -> Retyping
-    ensures { λ r. ⌜ Planned (now (img .entry)) (deleteOf (now (img .entry)) (now (path .entry))) r ⌝ }
+    ensures { λ r. ⌜ RetypePlanned (now (img .entry)) (deleteOf (now (img .entry)) (now (path .entry))) r ⌝ }
 {
     match judging::judge(img) {
         Judged::Refused(n) => Retyping::Refused(n),

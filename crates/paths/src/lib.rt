@@ -6,11 +6,11 @@ use index::next_entry;
 use slots::Head;
 use units::Slot;
 ghost use mathlib.Core.Path.{_≡_};
-ghost use mathlib.Core.Bool.{_&&_};
+ghost use mathlib.Core.Bool.{true, _&&_};
 ghost use lib.Dec.{leb};
 ghost use Rattle.rules.specs.Lists.{eqList, any, first};
 ghost use Rattle.rules.specs.Names.{isBelow};
-ghost use Rattle.rules.specs.Index.{liveType};
+ghost use Rattle.rules.specs.Index.{runType, liveType};
 ghost use Rattle.rules.specs.Paths.{liveAt, deletedAt, isDirectoryAt, lookup, nextLive, directoryLive, anyBelow};
 ghost use Rattle.slots.specs.View.{headView, HeadIn};
 ghost use Rattle.index.specs.Steps.{Walks, entriesFrom};
@@ -57,6 +57,14 @@ pub fn is_below(above: &[u8], path: &[u8]) -> bool
     same_bytes(above, &path[..n])
 }
 
+// Whether the run's entry has this path.
+fn has_path(img: &[u8], h: Head, path: &[u8]) -> bool
+    requires { ⌜ HeadIn (now img) h × (runType (h .kind) ≡ true) ⌝ }
+    ensures { λ r. ⌜ r ≡ eqList (headView (now (img .entry)) h .path) (now (path .entry)) ⌝ }
+{
+    same_bytes(slots::path_of(img, h), path)
+}
+
 // Whether the entry is live and has this path.
 pub fn path_is(img: &[u8], h: Head, path: &[u8]) -> bool
     requires { ⌜ HeadIn (now img) h ⌝ }
@@ -65,7 +73,7 @@ pub fn path_is(img: &[u8], h: Head, path: &[u8]) -> bool
     if !slots::is_live(h.kind) {
         return false;
     }
-    same_bytes(slots::path_of(img, h), path)
+    has_path(img, h, path)
 }
 
 // Whether the entry is deleted and has this path.
@@ -76,7 +84,7 @@ fn was_path(img: &[u8], h: Head, path: &[u8]) -> bool
     if !slots::is_deleted(h.kind) {
         return false;
     }
-    same_bytes(slots::path_of(img, h), path)
+    has_path(img, h, path)
 }
 
 // Whether the entry is the live directory of this path.
@@ -87,7 +95,7 @@ pub fn directory_is(img: &[u8], h: Head, path: &[u8]) -> bool
     if h.kind != slots::DIRECTORY {
         return false;
     }
-    same_bytes(slots::path_of(img, h), path)
+    has_path(img, h, path)
 }
 
 // Whether the entry is live and lies below this path.

@@ -26,7 +26,7 @@ use Rattle.index.specs.Steps.{Walks, entriesFrom}
 use Rattle.paths.specs.declared.Search.{Search}
 use Rattle.paths.specs.View.{Searched, HitAt, isFound, searched-found, hit-first}
 use Rattle.judging.specs.View.{Opened, volumeOf, opened-walks, opened-entries}
-use Rattle.retyping.specs.Planned.{Planned}
+use Rattle.retyping.specs.Planned.{RetypePlanned}
 use Rattle.retyping.specs.declared.Retyping.the-variants.{Refused}
 
 pub record Met (s path : List ℕ) (g : Held) (from : Cursor) (h : Head) (rest : Cursor) : Type 0 where
@@ -62,18 +62,18 @@ module _ (s path : List ℕ) (g : Held) (from : Cursor) (h : Head) (rest : Curso
 
   -- ---- by the tests, in their order
   module _ (r : Search) (told : Searched s (lookup path (entriesFrom s from)) r) where
-    pub met-live : isFound r ≡ true → Planned s (restoreOf s path) (Refused 12)
-    unfolding Planned
+    pub met-live : isFound r ≡ true → RetypePlanned s (restoreOf s path) (Refused 12)
+    unfolding RetypePlanned
     met-live l z = restore-live s v (m .opened) (m .may) path z (m .named) (headView s h) met-first (live-is r told ∙ l)
 
     module _ (l : isFound r ≡ false) where
-      pub met-orphan : nearestLive (entriesFrom s from) (leading path) ≡ false → Planned s (restoreOf s path) (Refused 13)
-      unfolding Planned
+      pub met-orphan : nearestLive (entriesFrom s from) (leading path) ≡ false → RetypePlanned s (restoreOf s path) (Refused 13)
+      unfolding RetypePlanned
       met-orphan d z = restore-orphan s v (m .opened) (m .may) path z (m .named) (headView s h) met-first (live-is r told ∙ l) (nearest-is ∙ d)
 
       module _ (d : nearestLive (entriesFrom s from) (leading path) ≡ true) where
-        pub met-several : any (deletedAt path) (entriesFrom s rest) ≡ true → Planned s (restoreOf s path) (Refused 19)
-        unfolding Planned
+        pub met-several : any (deletedAt path) (entriesFrom s rest) ≡ true → RetypePlanned s (restoreOf s path) (Refused 19)
+        unfolding RetypePlanned
         met-several n z =
             restore-several s v (m .opened) (m .may) path z (m .named) (headView s h) met-first (live-is r told ∙ l) (nearest-is ∙ d) (alone ∙ ap not n)
 

@@ -10,20 +10,13 @@ ghost use Rattle.rules.specs.Fields.{signedOf};
 ghost use Rattle.rules.specs.Writing.{restoreOf};
 ghost use Rattle.contracts.specs.Contracts.{Restores};
 ghost use Rattle.judging.specs.View.{Opened};
-ghost use Rattle.retyping.specs.Planned.{Planned};
+ghost use Rattle.retyping.specs.Planned.{RetypePlanned};
 ghost use Rattle.restoring.specs.Met.{Met};
 
 // 12, 13 and 19: the path is not live, its directory is, and no deleted entry behind the first has the path.
-fn plan_first(
-    img: &[u8],
-    g: Geometry,
-    from: Cursor,
-    path: &[u8],
-    h: Head,
-    rest: Cursor,
-) -> Retyping
+fn plan_first(img: &[u8], g: Geometry, from: Cursor, path: &[u8], h: Head, rest: Cursor) -> Retyping
     requires { ⌜ Met (now img) (now path) g from h rest ⌝ }
-    ensures { λ r. ⌜ Planned (now (img .entry)) (restoreOf (now (img .entry)) (now (path .entry))) r ⌝ }
+    ensures { λ r. ⌜ RetypePlanned (now (img .entry)) (restoreOf (now (img .entry)) (now (path .entry))) r ⌝ }
 {
     if paths::is_found(paths::lookup(img, from, path)) {
         return Retyping::Refused(12);
@@ -40,7 +33,7 @@ fn plan_first(
 // 9, 10 and 11: what may be written, by which path, and a deleted entry that has it.
 fn plan_entry(img: &[u8], g: Geometry, path: &[u8]) -> Retyping
     requires { ⌜ Opened (now img) g ⌝ }
-    ensures { λ r. ⌜ Planned (now (img .entry)) (restoreOf (now (img .entry)) (now (path .entry))) r ⌝ }
+    ensures { λ r. ⌜ RetypePlanned (now (img .entry)) (restoreOf (now (img .entry)) (now (path .entry))) r ⌝ }
 {
     if !g.is_writable() {
         return Retyping::Refused(9);
@@ -56,7 +49,7 @@ fn plan_entry(img: &[u8], g: Geometry, path: &[u8]) -> Retyping
 }
 
 fn plan_restore(img: &[u8], path: &[u8]) -> Retyping
-    ensures { λ r. ⌜ Planned (now (img .entry)) (restoreOf (now (img .entry)) (now (path .entry))) r ⌝ }
+    ensures { λ r. ⌜ RetypePlanned (now (img .entry)) (restoreOf (now (img .entry)) (now (path .entry))) r ⌝ }
 {
     match judging::judge(img) {
         Judged::Refused(n) => Retyping::Refused(n),

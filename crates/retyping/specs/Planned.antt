@@ -23,9 +23,9 @@ use Rattle.retyping.specs.declared.Retyping.{Retyping}
 use Rattle.retyping.specs.declared.Retyping.the-variants.{Refused, At}
 
 -- ---- what was planned for a call, with any stamp: its refusal, or the entry that it changes
-unfoldable pub Planned : List ℕ → (ℤ → Written) → Retyping → Type 0
-Planned s call (Refused n) = (z : ℤ) → call z ≡ refusedWrite s n
-Planned s call (At at t) = (at .0 + slotBytes ≤ length s) × ((z : ℤ) → call z ≡ wrote (retyped s (at .0) t z))
+unfoldable pub RetypePlanned : List ℕ → (ℤ → Written) → Retyping → Type 0
+RetypePlanned s call (Refused n) = (z : ℤ) → call z ≡ refusedWrite s n
+RetypePlanned s call (At at t) = (at .0 + slotBytes ≤ length s) × ((z : ℤ) → call z ≡ wrote (retyped s (at .0) t z))
 
 -- what is written lies in the image
 unfoldable pub Fits : List ℕ → Retyping → Type 0
@@ -37,22 +37,22 @@ unfolding Fits
 fits-at s r f at t e = rw e at f
 
 module _ (s : List ℕ) (call : ℤ → Written) where
-  pub planned-fits : (r : Retyping) → Planned s call r → Fits s r
-  unfolding Planned Fits
+  pub planned-fits : (r : Retyping) → RetypePlanned s call r → Fits s r
+  unfolding RetypePlanned Fits
   planned-fits (Refused n) p = tt
   planned-fits (At at t) p = p .0
 
-  pub planned-at : (at : Offset) (t place : ℕ) → at .0 ≡ place → place + slotBytes ≤ length s → ((z : ℤ) → call z ≡ wrote (retyped s place t z)) → Planned s call (At at t)
-  unfolding Planned
+  pub planned-at : (at : Offset) (t place : ℕ) → at .0 ≡ place → place + slotBytes ≤ length s → ((z : ℤ) → call z ≡ wrote (retyped s place t z)) → RetypePlanned s call (At at t)
+  unfolding RetypePlanned
   planned-at at t place e room c = (rw e room, λ z. rw e (c z))
 
-  module _ (r : Retyping) (p : Planned s call r) (z : ℤ) where
+  module _ (r : Retyping) (p : RetypePlanned s call r) (z : ℤ) where
     pub planned-refused : (n : ℕ) → r ≡ Refused n → refusedWrite s n ≡ call z
-    unfolding Planned
+    unfolding RetypePlanned
     planned-refused n e = sym ((rw e at p) z)
 
     pub planned-wrote : (at : Offset) (t : ℕ) → r ≡ At at t → (u : List ℕ) → u ≡ retyped s (at .0) t z → wrote u ≡ call z
-    unfolding Planned
+    unfolding RetypePlanned
     planned-wrote at t e u f = ap wrote f ∙ sym ((rw e at p) .1 z)
 
 -- of the type that a program computed

@@ -14,7 +14,7 @@ ghost use Rattle.rules.specs.Writing.Laws.{wrote};
 ghost use Rattle.contracts.specs.Contracts.{writtenAs};
 ghost use Rattle.geometry.specs.View.{geometryView};
 ghost use Rattle.judging.specs.View.{Opened};
-ghost use Rattle.retyping.specs.Planned.{Fits, Planned};
+ghost use Rattle.retyping.specs.Planned.{Fits, RetypePlanned};
 
 // What a call comes to: a refusal, or the place of an entry's first slot and its new type.
 pub enum Retyping {
@@ -25,7 +25,7 @@ pub enum Retyping {
 // The entry whose first slot is this one, with its new type.
 pub fn at_slot(img: &[u8], g: Geometry, slot: Slot, kind: u8) -> Retyping
     requires { ⌜ Opened (now img) g × (slotAt (now img) (geometryView g) (slot .0) + slotBytes ≤ length (now img)) ⌝ }
-    ensures { λ r. ⌜ ((call : ℤ → Written) → ((z : ℤ) → call z ≡ wrote (retyped (now (img .entry)) (slotAt (now (img .entry)) (geometryView g) (slot .0)) kind z)) → Planned (now (img .entry)) call r) ⌝ }
+    ensures { λ r. ⌜ ((call : ℤ → Written) → ((z : ℤ) → call z ≡ wrote (retyped (now (img .entry)) (slotAt (now (img .entry)) (geometryView g) (slot .0)) kind z)) → RetypePlanned (now (img .entry)) call r) ⌝ }
 {
     let start = units::index_start(img.len() as u64, g.index);
     Retyping::At(slot.offset(start), kind)
@@ -34,7 +34,7 @@ pub fn at_slot(img: &[u8], g: Geometry, slot: Slot, kind: u8) -> Retyping
 // The refusal, 0 once the type and the stamp are written; `stamp` is the stamp's 64 bits.
 pub fn put(img: &mut [u8], plan: Retyping, stamp: u64) -> u32
     requires { ⌜ Fits (now img) plan ⌝ }
-    ensures { λ r. ⌜ ((call : ℤ → Written) → Planned (now (img .entry)) call plan → writtenAs r (now (img .exit)) ≡ call (signedOf stamp)) ⌝ }
+    ensures { λ r. ⌜ ((call : ℤ → Written) → RetypePlanned (now (img .entry)) call plan → writtenAs r (now (img .exit)) ≡ call (signedOf stamp)) ⌝ }
 {
     match plan {
         Retyping::Refused(n) => n as u32,

@@ -14,7 +14,7 @@ use Rattle.slots.specs.View.{headView}
 use Rattle.index.specs.Steps.{Walks, entriesFrom}
 use Rattle.paths.specs.View.{searched-nothing, searched-entry}
 use Rattle.judging.specs.View.{volumeOf, opened-super, opened-walks, opened-entries}
-use Rattle.retyping.specs.Planned.{Planned, as-kind, found-room}
+use Rattle.retyping.specs.Planned.{RetypePlanned, as-kind, found-room}
 use borrow.Author.Needs.{needs}
 use Rattle.erasing.proofs.plan_entry.Statement.{statement}
 use Rattle.erasing.proofs.plan_entry.Tie as tie
@@ -59,14 +59,14 @@ is-writable-requires : tie.Need-is-writable-requires
 is-writable-requires c κs = search needs
 
 returns : tie.Need-returns
-unfolding Planned
+unfolding RetypePlanned
 returns c = delete-later _ _ (c .before .before .before .before .pre) (sym (c .before .is-writable .ensures) ∙ not-true _ (c .if1 .taken)) _
 
 path-good-requires : tie.Need-path-good-requires
 path-good-requires c κs = search needs
 
 returns-2 : tie.Need-returns-2
-unfolding Planned
+unfolding RetypePlanned
 returns-2 c z = let p = c .before .before in
     delete-name _ _ (first p .pre) (current p) _ z (sym (c .before .path-good .ensures) ∙ not-true _ (c .if2 .taken))
 
@@ -86,7 +86,7 @@ any-below-requires : tie.Need-any-below-requires
 any-below-requires c κs = walks (sought c)
 
 returns-3 : tie.Need-returns-3
-unfolding Planned
+unfolding RetypePlanned
 returns-3 c z = let k = c .before .before in
     let f = sought k in
     delete-full _ _ (begun f .pre) (current (f .before .before .before)) _ z (good (f .before)) _ (found k) (below (c .before) ∙ c .if3 .taken)
@@ -98,7 +98,7 @@ at-slot-requires c κs = let k = passed (c .before) in
     (x .pre, found-room _ _ (x .pre) _ _ (found k))
 
 returns-4 : tie.Need-returns-4
-unfolding Planned
+unfolding RetypePlanned
 returns-4 c z = let f = c .before .before .before in
     delete-none _ _ (begun f .pre) (current (f .before .before .before)) _ z (good (f .before))
     (ap (lookup _) (sym (entries-are f)) ∙ searched-nothing _ _ _ (c .before .before .lookup .ensures) (c .enum-told .given .1))

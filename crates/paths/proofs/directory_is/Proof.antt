@@ -1,7 +1,5 @@
+use mathlib.Core.Path.{sym, _∙_}
 use Rattle.rules.specs.Paths.Laws.{directory-run}
-use Rattle.rules.specs.Lists.{eqList}
-use denote.Ref.{now}
-use mathlib.Core.Path.{sym, ap, _∙_}
 use Rattle.paths.specs.Entries.{directory-no, directory-yes}
 use borrow.Author.Needs.{needs}
 use Rattle.paths.proofs.directory_is.Statement.{statement}
@@ -10,17 +8,11 @@ use Rattle.paths.proofs.directory_is.Tie as tie
 returns : tie.Need-returns
 returns c = sym (directory-no _ _ _ (c .if1 .taken))
 
-path-of-requires : tie.Need-path-of-requires
-path-of-requires c κs = (c .before .before .before .before .pre, directory-run _ (c .if1 .left))
-
-same-bytes-requires : tie.Need-same-bytes-requires
-same-bytes-requires c κs = search needs
+has-path-requires : tie.Need-has-path-requires
+has-path-requires c κs = (c .before .before .before .before .pre, directory-run _ (c .if1 .left))
 
 returns-2 : tie.Need-returns-2
-returns-2 c = let e = c .before .before in
-    c .same-bytes .ensures
-    ∙ ap (λ p. eqList p (now (e .before .before .before .before .args .path))) (c .before .path-of .ensures)
-    ∙ sym (directory-yes _ _ _ (e .if1 .left))
+returns-2 c = c .has-path .ensures ∙ sym (directory-yes _ _ _ (c .before .if1 .left))
 
 pub directory-is-spec : {M : Type 1} → statement M
-directory-is-spec = tie.close (tie.spec returns path-of-requires same-bytes-requires returns-2)
+directory-is-spec = tie.close (tie.spec returns has-path-requires returns-2)

@@ -9,7 +9,7 @@ use Rattle.rules.specs.Writing.Laws.{restore-later, restore-name, restore-none}
 use Rattle.geometry.specs.View.{geometryView}
 use Rattle.paths.specs.View.{hit-nothing, hit-entry}
 use Rattle.judging.specs.View.{opened-super, opened-walks, opened-entries}
-use Rattle.retyping.specs.Planned.{Planned}
+use Rattle.retyping.specs.Planned.{RetypePlanned}
 use borrow.Author.Needs.{needs}
 use Rattle.restoring.proofs.plan_entry.Statement.{statement}
 use Rattle.restoring.proofs.plan_entry.Tie as tie
@@ -29,11 +29,11 @@ good : (c : tie.Else2) → pathGood (now (first-place (c .before .before) .args 
 good c = sym (c .before .path-good .ensures) ∙ not-false _ (c .if2 .left)
 
 returns : tie.Need-returns
-unfolding Planned
+unfolding RetypePlanned
 returns c = restore-later _ _ (c .before .before .before .before .pre) (sym (c .before .is-writable .ensures) ∙ not-true _ (c .if1 .taken)) _
 
 returns-2 : tie.Need-returns-2
-unfolding Planned
+unfolding RetypePlanned
 returns-2 c z = let p = c .before .before in
     restore-name _ _ (first-place p .pre) (current p) _ z (sym (c .before .path-good .ensures) ∙ not-true _ (c .if2 .taken))
 
@@ -56,7 +56,7 @@ plan-first-requires c κs = let d = c .before .before .before in
     }
 
 returns-3 : tie.Need-returns-3
-unfolding Planned
+unfolding RetypePlanned
 returns-3 c z = let d = c .before .before in
     let f = d .before in
     restore-none _ _ (begun f .pre) (current (f .before .before .before)) _ z (good (f .before))
