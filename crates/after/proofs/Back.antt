@@ -158,7 +158,7 @@ none-deleted path es =
     none-first (deletedAt path) (undeleted es)
     (all-weaken _ _ (λ e h. and-left (isDeleted e) (eqList (e .path) path) (not-true (isDeleted e) h)) (undeleted es) (all-chosen (λ e. not (isDeleted e)) es))
 
-still-may : (s : List ℕ) (v : Volume) (stamp : ℤ) → judge s ≡ accepted v → reclaimOf s stamp .refusal ≡ 0 → (w : Volume) → SameSealed (w .geometry) (v .geometry) → writable (w .geometry) ≡ true
+pub still-may : (s : List ℕ) (v : Volume) (stamp : ℤ) → judge s ≡ accepted v → reclaimOf s stamp .refusal ≡ 0 → (w : Volume) → SameSealed (w .geometry) (v .geometry) → writable (w .geometry) ≡ true
 unfolding reclaimOf writable
 still-may s v stamp o z w same = ap (λ (n : ℕ). leb n version10) (same .version-same) ∙ passed-may s v _ o z
 

@@ -6,12 +6,34 @@ use mathlib.Core.List.{List, []}
 use mathlib.Core.Option.{Option, none, some}
 use native.Mathlib.Omega.{arith}
 use Rattle.rules.specs.SuperBlock.{writable}
-use Rattle.rules.specs.Refusals.{Verdict, accepted, need, needFound, Volume, judge}
+use Rattle.rules.specs.Refusals.{Verdict, refused, accepted, need, needFound, andThen, Volume, judgeIndex, judgeGeometry, judge}
 use Rattle.rules.specs.Refusals.Laws.{then-next}
 use Rattle.rules.specs.Outcome.{done, conclude, onVolume}
 use Rattle.rules.specs.Writing.{Written, onWritable}
 
--- what a verdict of a writing call comes to
+-- ---- the refusals of opening have numbers from 1 to 9
+abbrev pub Low : {A : Type 0} → Verdict A → Type 0
+Low (refused n) = (0 < n) × (n < 10)
+Low (accepted x) = Unit {0}
+
+pub need-low : {A : Type 0} (b : Bool) (n : ℕ) (v : Verdict A) → (0 < n) × (n < 10) → Low v → Low (need b n v)
+unfolding need
+need-low true n v h l = l
+need-low false n v h l = h
+
+then-low : {A B : Type 0} (v : Verdict A) (next : A → Verdict B) → Low v → ((x : A) → Low (next x)) → Low (andThen v next)
+unfolding andThen
+then-low (refused n) next l r = l
+then-low (accepted x) next l r = r x
+
+pub judge-low : (s : List ℕ) → Low (judge s)
+unfolding judge judgeGeometry judgeIndex
+judge-low s =
+    then-low _ _
+    (need-low _ 1 _ (omega arith, omega arith) (need-low _ 2 _ (omega arith, omega arith) (need-low _ 3 _ (omega arith, omega arith) (need-low _ 4 _ (omega arith, omega arith) (need-low _ 5 _ (omega arith, omega arith) tt)))))
+    (λ g. need-low _ 6 _ (omega arith, omega arith) (need-low _ 7 _ (omega arith, omega arith) (need-low _ 8 _ (omega arith, omega arith) tt)))
+
+-- ---- what a verdict of a writing call comes to
 abbrev pub ending : List ℕ → Verdict Written → Written
 ending s d = conclude tt s [] d
 
@@ -41,6 +63,15 @@ module _ (s : List ℕ) (v : Volume) (call : Volume → Verdict Written) (o : ju
 
   pub passed-writable : onWritable s call ≡ ending s (call v)
   passed-writable = passed-nine .1
+
+-- so where a call answered 0 the image opens
+pub passed-opens : (s : List ℕ) (call : Volume → Verdict Written) → onWritable s call .refusal ≡ 0 → (v : Volume) × (judge s ≡ accepted v)
+unfolding onVolume andThen conclude
+passed-opens s call z = by (judge s) refl (judge-low s)
+  where
+    by : (r : Verdict Volume) → judge s ≡ r → Low r → (v : Volume) × (judge s ≡ accepted v)
+    by (refused n) e l = let q : n ≡ 0 = rw e at z in absurd (omega arith)
+    by (accepted v) e l = (v, e)
 
 -- what is left then
 pub passed-done : (s t : List ℕ) (w : Written) → w ≡ ending s (accepted (done tt t [])) → w .image ≡ t

@@ -13,10 +13,11 @@ use Rattle.rules.specs.Text.Laws.{decimal-length}
 use Rattle.rules.specs.Index.{Entry, innerSlots, itemAt, itemsOf, slotAt, fileType, walkAll}
 use Rattle.rules.specs.Regions.{blocksOf, heldBlocks}
 use Rattle.rules.specs.Paths.{isLive}
-use Rattle.rules.specs.Refusals.{Verdict, refused, accepted, need, andThen, Volume, entries, judge, judgeGeometry, judgeIndex}
+use Rattle.rules.specs.Refusals.{Verdict, refused, accepted, need, Volume, entries, judge}
 use Rattle.rules.specs.Refusals.Laws.{Opens, judge-opens, need-accepted}
 use Rattle.rules.specs.Listing.{lineOf, linesOf, countLine, refusedLine, volumeText, listingOf}
 use Rattle.laws.proofs.Index.Entries.{Bytes}
+use Rattle.laws.proofs.Images.Accepted.{Low, need-low, judge-low}
 use Rattle.laws.proofs.Index.Slots.{inner-slots}
 use Rattle.laws.proofs.Index.Ends.{name-fits}
 use Rattle.laws.proofs.Listing.Weights.{bytes-drop, Weighs, sum-walk}
@@ -38,27 +39,6 @@ sum-only : (f : Entry → ℕ) (p : Entry → Bool) (es : List Entry) → sum f 
 sum-only f p es = omega (arith, sum-parts f p es)
 
 -- ---- refusals
-abbrev Low : {A : Type 0} → Verdict A → Type 0
-Low (refused n) = n < 10
-Low (accepted x) = Unit {0}
-
-need-low : {A : Type 0} (b : Bool) (n : ℕ) (v : Verdict A) → n < 10 → Low v → Low (need b n v)
-unfolding need
-need-low true n v h l = l
-need-low false n v h l = h
-
-then-low : {A B : Type 0} (v : Verdict A) (next : A → Verdict B) → Low v → ((x : A) → Low (next x)) → Low (andThen v next)
-unfolding andThen
-then-low (refused n) next l r = l
-then-low (accepted x) next l r = r x
-
-judge-low : (s : List ℕ) → Low (judge s)
-unfolding judge judgeGeometry judgeIndex
-judge-low s =
-    then-low _ _
-    (need-low _ 1 _ (omega arith) (need-low _ 2 _ (omega arith) (need-low _ 3 _ (omega arith) (need-low _ 4 _ (omega arith) (need-low _ 5 _ (omega arith) tt)))))
-    (λ g. need-low _ 6 _ (omega arith) (need-low _ 7 _ (omega arith) (need-low _ 8 _ (omega arith) tt)))
-
 refused-fits : (s : List ℕ) (n : ℕ) → n < 10 → length (volumeText s (refused n)) ≤ 10
 unfolding volumeText refusedLine
 refused-fits s n h = simp length-append (omega (arith, decimal-length 1 n (omega arith) h))
@@ -103,10 +83,10 @@ module _ (s : List ℕ) (v : Volume) (bytes : Bytes s) (o : Opens s v) (small : 
 -- one of more than 65,536 bytes is refused
 pub listing-fits : (s : List ℕ) → Bytes s → length (listingOf s) ≤ 131_000
 unfolding listingOf
-listing-fits s bytes = by (need (leb (length s) 65_536) 1 (judge s)) refl (need-low (leb (length s) 65_536) 1 (judge s) (omega arith) (judge-low s))
+listing-fits s bytes = by (need (leb (length s) 65_536) 1 (judge s)) refl (need-low (leb (length s) 65_536) 1 (judge s) (omega arith, omega arith) (judge-low s))
   where
     by : (r : Verdict Volume) → need (leb (length s) 65_536) 1 (judge s) ≡ r → Low r → length (volumeText s r) ≤ 131_000
-    by (refused n) e l = omega (arith, refused-fits s n l)
+    by (refused n) e l = omega (arith, refused-fits s n (l .1))
     by (accepted v) e l =
         let h = need-accepted (leb (length s) 65_536) 1 (judge s) e in
         volume-fits s v bytes (judge-opens s v (h .1)) (leb-true (length s) 65_536 (h .0))
