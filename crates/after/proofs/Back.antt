@@ -3,7 +3,7 @@ use Prim.Native.Nat.{ℕ, _+_, _≤_}
 use mathlib.Core.Path.{_≡_, refl, sym, ap, ap₂, subst, _∙_}
 use mathlib.Core.Bool.{Bool, true, false, not}
 use mathlib.Core.List.{List, _∷_, _++_, map}
-use mathlib.Core.Option.{none, some}
+use mathlib.Core.Option.{none}
 use native.Mathlib.Omega.{arith}
 use borrow.Author.Tests.{not-true}
 use lib.Dec.{leb}
@@ -37,7 +37,7 @@ use Rattle.laws.proofs.Images.Accepted.{passed-may}
 use Rattle.laws.proofs.Images.Indexes.{entry-room, kind-there, stamp-there}
 use Rattle.after.proofs.Retype.Left.{entries-before, entries-after, entries-map, changed, image, volume, opens}
 use Rattle.after.proofs.Delete.{DeletePassed, delete-passed, place, live, at-path, others}
-use Rattle.after.proofs.Reclaim.Left.{Reopens, reclaim-reopens}
+use Rattle.after.proofs.Reclaim.Left.{reclaim-reopens}
 
 module _ (s : List ℕ) (v : Volume) (path : List ℕ) (stamp : ℤ) (bytes : Bytes s) (o : Opens s v) (d : DeletePassed s v path stamp) (may : writable (v .geometry) ≡ true) where
   abbrev it : Entry

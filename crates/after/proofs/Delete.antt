@@ -9,7 +9,7 @@ use borrow.Author.Tests.{not-true}
 use lib.IntN.{ℤ}
 use Rattle.rules.specs.Lists.{eqList, All}
 use Rattle.rules.specs.Lists.Laws.{and-true}
-use Rattle.rules.specs.SuperBlock.{blockLength, writable}
+use Rattle.rules.specs.SuperBlock.{blockLength}
 use Rattle.rules.specs.SuperBlock.Laws.{storedStamp}
 use Rattle.rules.specs.Names.{pathGood}
 use Rattle.rules.specs.Index.{Entry, entriesOf, slotAt}
@@ -18,7 +18,7 @@ use Rattle.rules.specs.Refusals.{accepted, Volume, entries, judge}
 use Rattle.rules.specs.Refusals.Laws.{Opens, judge-opens}
 use Rattle.rules.specs.Writing.{Written, deleteOf, deletedKind, deleted}
 use Rattle.rules.specs.History.{marked}
-use Rattle.after.specs.After.{isNamed, seen, Left, sight, unusables, AfterDelete}
+use Rattle.after.specs.After.{seen, Left, sight, unusables, AfterDelete}
 use Rattle.laws.proofs.Lists.Every.{all-of}
 use Rattle.laws.proofs.Index.Entries.{retypedEntry}
 use Rattle.laws.proofs.Index.Places.{Found, first-split}

@@ -9,7 +9,7 @@ use lib.Dec.{leb}
 use lib.ListN.{length}
 use lib.IntN.{ℤ}
 use borrow.Author.Tests.{not-true}
-use Rattle.rules.specs.Lists.{any, only, first, isSome, eqList, All}
+use Rattle.rules.specs.Lists.{only, first, isSome, eqList, All}
 use Rattle.rules.specs.Lists.Laws.{clash, and-true, or-right, is-none}
 use Rattle.rules.specs.SuperBlock.{blockLength}
 use Rattle.rules.specs.SuperBlock.Laws.{storedStamp}

@@ -9,7 +9,7 @@ use Rattle.rules.specs.Lists.{pick, any}
 use Rattle.rules.specs.Names.{pathGood}
 use Rattle.rules.specs.Paths.{deletedAt}
 use Rattle.rules.specs.Refusals.{accepted, Volume, entries, judge}
-use Rattle.rules.specs.Outcome.{Outcome, done, numbersOf}
+use Rattle.rules.specs.Outcome.{done, numbersOf}
 use Rattle.rules.specs.Reading.Laws.{find-done}
 use Rattle.rules.specs.Writing.{Written, deleteOf, restoreOf, reclaimOf}
 use Rattle.rules.specs.Writing.Laws.{refusedWrite, wrote, restore-name}
@@ -17,7 +17,7 @@ use Rattle.contracts.specs.Contracts.{writtenAs, Finds, Deletes, Restores, Recl
 use Rattle.contracts.specs.declared.Entry.{Entry}
 use Rattle.laws.proofs.Index.Entries.{Bytes}
 use Rattle.laws.proofs.Images.Accepted.{passed-opens}
-use Rattle.after.proofs.Delete.{DeletePassed, delete-passed}
+use Rattle.after.proofs.Delete.{delete-passed}
 use Rattle.after.proofs.Reclaim.Left.{Reopens, reclaim-reopens}
 use Rattle.after.proofs.Back.{deleted-restored, reclaimed-restored, still-may}
 

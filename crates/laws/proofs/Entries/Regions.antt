@@ -17,7 +17,7 @@ use Rattle.rules.specs.Index.{Entry, fileType, typeFile, typeDirectory, typeUnu
 use Rattle.rules.specs.Regions.{holds, blocksOf, withinData, fileRegionGood, regionGood, apart, regionsSound, busy, runFree}
 use Rattle.rules.specs.Regions.Laws.{holds-says, apart-back, apart-before, apart-behind, none-apart, run-says}
 use Rattle.rules.specs.Index.Walk.{pick-both}
-use Rattle.rules.specs.Paths.{isLive, isDeleted}
+use Rattle.rules.specs.Paths.{isDeleted}
 use Rattle.rules.specs.Writing.{undeleted, leastEnd}
 use Rattle.laws.proofs.Lists.Every.{not-both, and-map, or-map, or-left, pick-map, all-weaken, all-of, all-and, all-each, all-only, pairs-only, all-says, all-holds, two-says, two-holds, none-passes, every-map, every-ext, two-map, two-ext, le-largest, largest-le}
 use Rattle.laws.proofs.Lists.Perms.{perm-every, perm-two}

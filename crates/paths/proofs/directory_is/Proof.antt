@@ -1,7 +1,6 @@
 use mathlib.Core.Path.{sym, _∙_}
 use Rattle.rules.specs.Paths.Laws.{directory-run}
 use Rattle.paths.specs.Entries.{directory-no, directory-yes}
-use borrow.Author.Needs.{needs}
 use Rattle.paths.proofs.directory_is.Statement.{statement}
 use Rattle.paths.proofs.directory_is.Tie as tie
 

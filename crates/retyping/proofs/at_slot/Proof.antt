@@ -4,7 +4,6 @@ use Rattle.geometry.specs.View.{geometryView}
 use Rattle.laws.proofs.Index.Slots.{slot-at}
 use Rattle.judging.specs.View.{opened-super}
 use Rattle.retyping.specs.Planned.{planned-at}
-use borrow.Author.Needs.{needs}
 use Rattle.retyping.proofs.at_slot.Statement.{statement}
 use Rattle.retyping.proofs.at_slot.Tie as tie
 

@@ -4,7 +4,7 @@ use mathlib.Core.Path.{_≡_, ap, _∙_}
 use native.Mathlib.Omega.{arith}
 use Rattle.rules.specs.Lists.{sum}
 use Rattle.rules.specs.Lists.Laws.{sum-parts, sum-map}
-use Rattle.rules.specs.History.{Call, format, openVolume, find, list, read, create, delete, restore, reclaim, Kept, History, marked, revived, fed}
+use Rattle.rules.specs.History.{Call, format, openVolume, find, list, read, create, delete, restore, reclaim, History, marked, revived, fed}
 
 abbrev pub Balanced : History → Type 0
 Balanced h = sum (λ k. k .blocks) (h .kept) + h .givenBack ≡ h .granted
