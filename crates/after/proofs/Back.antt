@@ -39,7 +39,8 @@ use Rattle.after.proofs.Retype.Left.{entries-before, entries-after, ent
 use Rattle.after.proofs.Delete.{DeletePassed, delete-passed, place, live, at-path, others}
 use Rattle.after.proofs.Reclaim.Left.{reclaim-reopens}
 
-module _ (s : List ℕ) (v : Volume) (path : List ℕ) (stamp : ℤ) (bytes : Bytes s) (o : Opens s v) (d : DeletePassed s v path stamp) (may : writable (v .geometry) ≡ true) where
+module _ (s : List ℕ) (v : Volume) (path : List ℕ) (stamp : ℤ) (bytes : Bytes s) (o : Opens s v) (d : DeletePassed s v path stamp)
+    (may : writable (v .geometry) ≡ true) where
   abbrev it : Entry
   it = d .it
 
@@ -65,7 +66,8 @@ module _ (s : List ℕ) (v : Volume) (path : List ℕ) (stamp : ℤ) (bytes : By
   reopens : judge t ≡ accepted w
   reopens =
       opens-judge t w
-      (opens s v o (liveAt path) deletedKind (deletes path) stamp it spot (others s v path stamp o d) (delete-paths path (storedStamp stamp) (entries v) (d .alone) (o .paths-sound)))
+      (opens s v o (liveAt path) deletedKind (deletes path) stamp it spot (others s v path stamp o d)
+      (delete-paths path (storedStamp stamp) (entries v) (d .alone) (o .paths-sound)))
 
   whole : entries v ≡ pre ++ (it ∷ post)
   whole = entries-before s v o (liveAt path) deletedKind (deletes path) stamp it spot
@@ -84,12 +86,15 @@ module _ (s : List ℕ) (v : Volume) (path : List ℕ) (stamp : ℤ) (bytes : By
       (ap (first (liveAt path)) mapped
       ∙ none-first (liveAt path) (map (deleteAt path (storedStamp stamp)) (entries v))
       (all-map (λ e. liveAt path e ≡ false) (deleteAt path (storedStamp stamp)) (entries v)
-      (all-of _ (λ e. retype-by (liveAt path) deletedKind (storedStamp stamp) (λ x. liveAt path x ≡ false) e (λ h. and-left _ _ (deleted-gone (e .kind))) (λ h. h)) (entries v))))
+      (all-of _ (λ e.
+      retype-by (liveAt path) deletedKind (storedStamp stamp) (λ x. liveAt path x ≡ false) e (λ h. and-left _ _ (deleted-gone (e .kind))) (λ h. h))
+      (entries v))))
 
   directory : nearestLive (entries w) (leading path) ≡ true
   directory =
       ap (λ es. nearestLive es (leading path)) (mapped ∙ ap (map (deleteAt path (storedStamp stamp))) whole)
-      ∙ nearest-stays path (deleteAt path (storedStamp stamp)) pre it post (takes-away path (storedStamp stamp)) (live s v path stamp o d) (at-path s v path stamp o d)
+      ∙ nearest-stays path (deleteAt path (storedStamp stamp)) pre it post (takes-away path (storedStamp stamp))
+      (live s v path stamp o d) (at-path s v path stamp o d)
       (ap (anyBelow path) (sym whole) ∙ d .alone) (ap pathsSound (sym whole) ∙ o .paths-sound)
 
   is-deleted : deletedAt path gone ≡ true
@@ -127,7 +132,8 @@ module _ (s : List ℕ) (v : Volume) (path : List ℕ) (stamp : ℤ) (bytes : By
   old-bytes : restored t (slotAt t (v .geometry) (gone .slot)) gone (it .stamp) ≡ s
   unfolding restored retypedEntry
   old-bytes =
-      let same : slotAt t (v .geometry) (it .slot) ≡ at = slot-same s t (v .geometry) (v .geometry) (retyped-written s at (deletedKind (it .kind)) stamp room .long) refl (it .slot) in
+      let long : length t ≡ length s = retyped-written s at (deletedKind (it .kind)) stamp room .long in
+      let same : slotAt t (v .geometry) (it .slot) ≡ at = slot-same s t (v .geometry) (v .geometry) long refl (it .slot) in
       ap (λ (n : ℕ). retyped t n (liveKind (deletedKind (it .kind))) (it .stamp)) same
       ∙ ap₂ (retyped t at) kind-back stamp-back
       ∙ retyped-back s at bytes room (deletedKind (it .kind)) stamp
@@ -135,12 +141,13 @@ module _ (s : List ℕ) (v : Volume) (path : List ℕ) (stamp : ℤ) (bytes : By
   back : (b : Bool) → any (deletedAt path) (entries v) ≡ b → restoreOf t path (it .stamp) ≡ pick b (refusedWrite t 19) (wrote s)
   unfolding pick
   back true e =
-      let f = is-some (first (deletedAt path) (entries w)) (sym (any-first (deletedAt path) (entries w)) ∙ ap (any (deletedAt path)) left ∙ any-at (deletedAt path) pre gone post is-deleted) in
+      let some-one = ap (any (deletedAt path)) left ∙ any-at (deletedAt path) pre gone post is-deleted in
+      let f = is-some (first (deletedAt path) (entries w)) (sym (any-first (deletedAt path) (entries w)) ∙ some-one) in
       restore-several t w reopens may path (it .stamp) (d .named) (f .0) (f .1) not-live directory (count ∙ ap not e)
   back false e =
       let none-here = all-split _ pre (it ∷ post) (none-passes (deletedAt path) (pre ++ (it ∷ post)) (rw whole at e)) in
-      restore-done t w reopens may path (it .stamp) (d .named) gone (ap (first (deletedAt path)) left ∙ first-at (deletedAt path) pre gone post (none-here .0) is-deleted) not-live directory (count ∙ ap not e)
-      ∙ ap wrote old-bytes
+      let found = ap (first (deletedAt path)) left ∙ first-at (deletedAt path) pre gone post (none-here .0) is-deleted in
+      restore-done t w reopens may path (it .stamp) (d .named) gone found not-live directory (count ∙ ap not e) ∙ ap wrote old-bytes
 
 pub deleted-restored : DeletedRestored
 unfolding deleteOf deleted
@@ -156,9 +163,11 @@ none-deleted : (path : List ℕ) (es : List Entry) → first (deletedAt path) (u
 unfolding deletedAt
 none-deleted path es =
     none-first (deletedAt path) (undeleted es)
-    (all-weaken _ _ (λ e h. and-left (isDeleted e) (eqList (e .path) path) (not-true (isDeleted e) h)) (undeleted es) (all-chosen (λ e. not (isDeleted e)) es))
+    (all-weaken _ _ (λ e h. and-left (isDeleted e) (eqList (e .path) path) (not-true (isDeleted e) h))
+    (undeleted es) (all-chosen (λ e. not (isDeleted e)) es))
 
-pub still-may : (s : List ℕ) (v : Volume) (stamp : ℤ) → judge s ≡ accepted v → reclaimOf s stamp .refusal ≡ 0 → (w : Volume) → SameSealed (w .geometry) (v .geometry) → writable (w .geometry) ≡ true
+pub still-may : (s : List ℕ) (v : Volume) (stamp : ℤ) → judge s ≡ accepted v → reclaimOf s stamp .refusal ≡ 0
+    → (w : Volume) → SameSealed (w .geometry) (v .geometry) → writable (w .geometry) ≡ true
 unfolding reclaimOf writable
 still-may s v stamp o z w same = ap (λ (n : ℕ). leb n version10) (same .version-same) ∙ passed-may s v _ o z
 

@@ -37,7 +37,8 @@ pub record DeletePassed (s : List ℕ) (v : Volume) (path : List ℕ) (stamp : �
   pub alone : anyBelow path (entries v) ≡ false
   pub image : deleteOf s path stamp .image ≡ deleted s (slotAt s (v .geometry) (it .slot)) it stamp
 
-pub delete-passed : (s : List ℕ) (v : Volume) (path : List ℕ) (stamp : ℤ) → judge s ≡ accepted v → deleteOf s path stamp .refusal ≡ 0 → DeletePassed s v path stamp
+pub delete-passed : (s : List ℕ) (v : Volume) (path : List ℕ) (stamp : ℤ) → judge s ≡ accepted v → deleteOf s path stamp .refusal ≡ 0
+    → DeletePassed s v path stamp
 unfolding deleteOf
 delete-passed s v path stamp o z =
     let w : Written = deleteOf s path stamp in

@@ -40,7 +40,8 @@ record RestorePassed (s : List ℕ) (v : Volume) (path : List ℕ) (stamp : ℤ)
   one : leb (length (only (deletedAt path) (entries v))) 1 ≡ true
   image : restoreOf s path stamp .image ≡ restored s (slotAt s (v .geometry) (it .slot)) it stamp
 
-restore-passed : (s : List ℕ) (v : Volume) (path : List ℕ) (stamp : ℤ) → judge s ≡ accepted v → restoreOf s path stamp .refusal ≡ 0 → RestorePassed s v path stamp
+restore-passed : (s : List ℕ) (v : Volume) (path : List ℕ) (stamp : ℤ) → judge s ≡ accepted v → restoreOf s path stamp .refusal ≡ 0
+    → RestorePassed s v path stamp
 unfolding restoreOf
 restore-passed s v path stamp o z =
     let w : Written = restoreOf s path stamp in

@@ -61,7 +61,8 @@ read-on : (s t : List ℕ) (h : History) (bad : List Extent) (c : Call) (answere
 read-on s t h bad c answered q u e l = fed-by s t h bad c answered (λ _. rw (q, u, e) l) (λ _. e) l
 
 -- an accepted call that writes, format apart: what it left is what the history is fed
-left-link : (s t : List ℕ) (h : History) (bad : List Extent) (c : Call) (told : List Kept) (l : Link s h bad) → Left t (blockLength (l .volume .geometry)) told (unusables (l .volume))
+left-link : (s t : List ℕ) (h : History) (bad : List Extent) (c : Call) (told : List Kept) (l : Link s h bad)
+    → Left t (blockLength (l .volume .geometry)) told (unusables (l .volume))
     → fed h c .blockBytes ≡ h .blockBytes → Perm told (fed h c .kept) → Link t (fed h c) bad
 left-link s t h bad c told l n b p = record {
   volume = n .volume;

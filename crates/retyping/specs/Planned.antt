@@ -42,7 +42,8 @@ module _ (s : List ℕ) (call : ℤ → Written) where
   planned-fits (Refused n) p = tt
   planned-fits (At at t) p = p .0
 
-  pub planned-at : (at : Offset) (t place : ℕ) → at .0 ≡ place → place + slotBytes ≤ length s → ((z : ℤ) → call z ≡ wrote (retyped s place t z)) → RetypePlanned s call (At at t)
+  pub planned-at : (at : Offset) (t place : ℕ) → at .0 ≡ place → place + slotBytes ≤ length s → ((z : ℤ) → call z ≡ wrote (retyped s place t z))
+      → RetypePlanned s call (At at t)
   unfolding RetypePlanned
   planned-at at t place e room c = (rw e room, λ z. rw e (c z))
 
@@ -56,7 +57,8 @@ module _ (s : List ℕ) (call : ℤ → Written) where
     planned-wrote at t e u f = ap wrote f ∙ sym ((rw e at p) .1 z)
 
 -- of the type that a program computed
-pub as-kind : (s : List ℕ) (call : ℤ → Written) (place t u : ℕ) → u ≡ t → ((z : ℤ) → call z ≡ wrote (retyped s place t z)) → (z : ℤ) → call z ≡ wrote (retyped s place u z)
+pub as-kind : (s : List ℕ) (call : ℤ → Written) (place t u : ℕ) → u ≡ t → ((z : ℤ) → call z ≡ wrote (retyped s place t z))
+    → (z : ℤ) → call z ≡ wrote (retyped s place u z)
 as-kind s call place t u e c z = rw e (c z)
 
 -- ---- an entry that was found lies in the image

@@ -31,8 +31,8 @@ unfolding pick done
 restored-as true s t u e = let z : _≡_ {A = ℕ} 0 19 = ap (λ (x : Written). x .refusal) e in absurd (omega arith)
 restored-as false s t u e = ap (λ (x : Written). x .image) e
 
-pub undone : (s t u path : List ℕ) (stamp old : ℤ) (f : Entry) (r q : ℕ) → Bytes s → Finds s path f → Deletes s path stamp r t → r ≡ 0 → old ≡ f .stamp → Restores t path old q u → q ≡ 0
-    → u ≡ s
+pub undone : (s t u path : List ℕ) (stamp old : ℤ) (f : Entry) (r q : ℕ) → Bytes s → Finds s path f → Deletes s path stamp r t → r ≡ 0
+    → old ≡ f .stamp → Restores t path old q u → q ≡ 0 → u ≡ s
 unfolding deleteOf done numbersOf
 undone s t u path stamp old f r q bytes finds deletes served same restores again =
     let i = same-image t (deleteOf s path stamp) (sym (ap (λ (n : ℕ). writtenAs n t) served) ∙ deletes) in

@@ -28,7 +28,8 @@ use Rattle.after.proofs.Sights.{extentsOf, extents-map}
 use Rattle.after.proofs.Retype.Seeing.{all-seen}
 
 -- the entry that changes, the only one that passes the test
-module _ (s : List ℕ) (v : Volume) (o : Opens s v) (p : Entry → Bool) (kinds : ℕ → ℕ) (r : Retypes p kinds) (stamp : ℤ) (it : Entry) (place : Found p (v .items) it) where
+module _ (s : List ℕ) (v : Volume) (o : Opens s v) (p : Entry → Bool) (kinds : ℕ → ℕ) (r : Retypes p kinds) (stamp : ℤ) (it : Entry)
+    (place : Found p (v .items) it) where
   pub entries-before : entries v ≡ entriesOf (place .pre) ++ (it ∷ entriesOf (place .post))
   unfolding entriesOf
   entries-before = ap entriesOf (place .split) ∙ entriesOf-append (place .pre) (entry it ∷ place .post)
@@ -66,14 +67,16 @@ module _ (s : List ℕ) (v : Volume) (o : Opens s v) (p : Entry → Bool) (kinds
     pub entries-map : entriesOf after ≡ map (retypeAt p kinds (storedStamp stamp)) (entries v)
     entries-map =
         entries-after
-        ∙ sym (retype-one p kinds (storedStamp stamp) (entriesOf (place .pre)) it (entriesOf (place .post)) (none-passes p _ (place .before)) (place .passes) alone)
+        ∙ sym
+        (retype-one p kinds (storedStamp stamp) (entriesOf (place .pre)) it (entriesOf (place .post)) (none-passes p _ (place .before)) (place .passes) alone)
         ∙ ap (map (retypeAt p kinds (storedStamp stamp))) (sym entries-before)
 
     module _ (paths : pathsSound (map (retypeAt p kinds (storedStamp stamp)) (entries v)) ≡ true) where
       pub opens : Opens image volume
       opens =
           inner-opens s image (v .geometry) (o .geometry-good) inner after (opens-super s v o) (ends-good s (v .geometry) (v .items) (o .index-sound) .0)
-          (retyped-items s (v .geometry) (o .geometry-good) (place .pre) it (place .post) here (kinds (it .kind)) stamp (r .named it (place .passes)) (r .run (it .kind)) (r .file (it .kind)))
+          (retyped-items s (v .geometry) (o .geometry-good) (place .pre) it (place .post) here (kinds (it .kind)) stamp
+          (r .named it (place .passes)) (r .run (it .kind)) (r .file (it .kind)))
           sound-after
           (rw entries-map (retype-regions p kinds (storedStamp stamp) r (v .geometry) (entries v) ∙ o .regions-sound))
           (rw entries-map paths)
@@ -82,7 +85,8 @@ module _ (s : List ℕ) (v : Volume) (o : Opens s v) (p : Entry → Bool) (kinds
       unfolding unusables
       unusable = ap extentsOf entries-map ∙ extents-map (retypeAt p kinds (storedStamp stamp)) (retype-region p kinds (storedStamp stamp) r) (entries v)
 
-      pub retype-left : (live : Kept → Bool) → All (λ e. isNamed e ≡ true → isLive (retypeAt p kinds (storedStamp stamp) e) ≡ live (seen s (v .geometry) e)) (entries v)
+      pub retype-left : (live : Kept → Bool)
+          → All (λ e. isNamed e ≡ true → isLive (retypeAt p kinds (storedStamp stamp) e) ≡ live (seen s (v .geometry) e)) (entries v)
           → Left image (blockLength (v .geometry)) (map (λ k. withLive k (live k)) (sight s v)) (unusables v)
       unfolding sight
       retype-left live l = record {
@@ -92,6 +96,7 @@ module _ (s : List ℕ) (v : Volume) (o : Opens s v) (p : Entry → Bool) (kinds
         agree =
             perm-of _ _
             (rw entries-map
-            (all-seen s image (v .geometry) (o .geometry-good) (inner-between s image (v .geometry) (o .geometry-good) inner) p kinds r (storedStamp stamp) live (entries v) (bare-entries s v o) (o .regions-sound) l));
+            (all-seen s image (v .geometry) (o .geometry-good) (inner-between s image (v .geometry) (o .geometry-good) inner)
+            p kinds r (storedStamp stamp) live (entries v) (bare-entries s v o) (o .regions-sound) l));
         unusable = perm-of _ _ unusable;
       }

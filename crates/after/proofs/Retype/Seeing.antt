@@ -24,7 +24,8 @@ use Rattle.laws.proofs.Entries.Walked.{Bare}
 use Rattle.laws.proofs.Images.Kept.{Between}
 use Rattle.laws.proofs.Images.Areas.{bytes-kept}
 
-module _ (s t : List ℕ) (g : Geometry) (good : GoodGeometry (length s) g) (same : Between s t g) (p : Entry → Bool) (kinds : ℕ → ℕ) (r : Retypes p kinds) (stamp : ℤ) where
+module _ (s t : List ℕ) (g : Geometry) (good : GoodGeometry (length s) g) (same : Between s t g)
+    (p : Entry → Bool) (kinds : ℕ → ℕ) (r : Retypes p kinds) (stamp : ℤ) where
   see : (e : Entry) → Bare e → regionGood g e ≡ true → seen t g (retypeAt p kinds stamp e) ≡ withLive (seen s g e) (isLive (retypeAt p kinds stamp e))
   unfolding seen retypedEntry blocksOf fileBytes liveKind isLive
   see e b q =

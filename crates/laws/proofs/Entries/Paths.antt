@@ -212,16 +212,19 @@ unfolding deletedAt
 live-not-deleted p e a = ap not (and-left (isDeleted e) (eqList (e .path) p) (not-true (isDeleted e) (live-kept e a)))
 
 -- f in the place of e, the one deleted entry of its path, where the path is not live and its directory is: f is new, and e is gone
-module _ (p : List ℕ) (pre : List Entry) (e f : Entry) (post : List Entry) (before : All (λ x. deletedAt p x ≡ false) pre) (here : deletedAt p e ≡ true) (behind : All (λ x. deletedAt p x ≡ false) post) where
+module _ (p : List ℕ) (pre : List Entry) (e f : Entry) (post : List Entry)
+    (before : All (λ x. deletedAt p x ≡ false) pre) (here : deletedAt p e ≡ true) (behind : All (λ x. deletedAt p x ≡ false) post) where
   pub paths-restore : isLive f ≡ true → f .path ≡ p → lookup p (pre ++ (e ∷ post)) ≡ none → nearestLive (pre ++ (e ∷ post)) (leading p) ≡ true
       → pathsSound (pre ++ (e ∷ post)) ≡ true → pathsSound (pre ++ (f ∷ post)) ≡ true
   paths-restore live is l n h =
       let q : Entry → Bool = λ x. not (deletedAt p x) in
       let more : pathsSound (f ∷ (pre ++ (e ∷ post))) ≡ true =
-      paths-create (pre ++ (e ∷ post)) f (ap (λ u. lookup u (pre ++ (e ∷ post))) is ∙ l) (ap (λ u. nearestLive (pre ++ (e ∷ post)) (leading u)) is ∙ n) h in
+      paths-create (pre ++ (e ∷ post)) f
+      (ap (λ u. lookup u (pre ++ (e ∷ post))) is ∙ l) (ap (λ u. nearestLive (pre ++ (e ∷ post)) (leading u)) is ∙ n) h in
       let one : only q (f ∷ (pre ++ (e ∷ post))) ≡ f ∷ (pre ++ post) =
       only-yes q f (pre ++ (e ∷ post)) (live-not-deleted p f live)
-      ∙ ap (λ us. f ∷ us) (only-but q pre e post (all-weaken _ _ (λ x k. ap not k) pre before) (ap not here) (all-weaken _ _ (λ x k. ap not k) post behind)) in
+      ∙ ap (λ us. f ∷ us)
+      (only-but q pre e post (all-weaken _ _ (λ x k. ap not k) pre before) (ap not here) (all-weaken _ _ (λ x k. ap not k) post behind)) in
       sym (paths-perm (perm-insert f pre post)) ∙ sym (ap pathsSound one) ∙ paths-only q (live-not-deleted p) (f ∷ (pre ++ (e ∷ post))) more
 
 -- ---- a live entry deleted
@@ -275,8 +278,9 @@ directories-stay path f es k e l b q =
     all-weaken _ _ (λ d r. directory-stays path f k es d (r .0) (r .1)) (leading (e .path)) (all-and _ _ (leading (e .path)) (not-above path e b l) q)
 
 -- so the nearest directory of the entry that was taken away is still live
-pub nearest-stays : (path : List ℕ) (f : Entry → Entry) (pre : List Entry) (e : Entry) (post : List Entry) → TakesAway path f → isLive e ≡ true → e .path ≡ path
-    → anyBelow path (pre ++ (e ∷ post)) ≡ false → pathsSound (pre ++ (e ∷ post)) ≡ true → nearestLive (map f (pre ++ (e ∷ post))) (leading path) ≡ true
+pub nearest-stays : (path : List ℕ) (f : Entry → Entry) (pre : List Entry) (e : Entry) (post : List Entry) → TakesAway path f → isLive e ≡ true
+    → e .path ≡ path → anyBelow path (pre ++ (e ∷ post)) ≡ false → pathsSound (pre ++ (e ∷ post)) ≡ true
+    → nearestLive (map f (pre ++ (e ∷ post))) (leading path) ≡ true
 unfolding anyBelow
 nearest-stays path f pre e post k l is b h =
     let es : List Entry = pre ++ (e ∷ post) in

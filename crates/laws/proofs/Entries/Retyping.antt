@@ -36,7 +36,8 @@ module _ (p : Entry → Bool) (kinds : ℕ → ℕ) (stamp : ℤ) where
   retype-other e h = pick-false (retypedEntry (kinds (e .kind)) stamp e) e h
 
   -- by whether it passes
-  pub retype-by : (P : Entry → Type 0) (e : Entry) → (p e ≡ true → P (retypedEntry (kinds (e .kind)) stamp e)) → (p e ≡ false → P e) → P (retypeAt p kinds stamp e)
+  pub retype-by : (P : Entry → Type 0) (e : Entry) → (p e ≡ true → P (retypedEntry (kinds (e .kind)) stamp e)) → (p e ≡ false → P e)
+      → P (retypeAt p kinds stamp e)
   retype-by P e f g = go (p e) refl
     where
       go : (t : Bool) → p e ≡ t → P (retypeAt p kinds stamp e)

@@ -30,8 +30,15 @@ pub judge-low : (s : List ℕ) → Low (judge s)
 unfolding judge judgeGeometry judgeIndex
 judge-low s =
     then-low _ _
-    (need-low _ 1 _ (omega arith, omega arith) (need-low _ 2 _ (omega arith, omega arith) (need-low _ 3 _ (omega arith, omega arith) (need-low _ 4 _ (omega arith, omega arith) (need-low _ 5 _ (omega arith, omega arith) tt)))))
-    (λ g. need-low _ 6 _ (omega arith, omega arith) (need-low _ 7 _ (omega arith, omega arith) (need-low _ 8 _ (omega arith, omega arith) tt)))
+    (need-low _ 1 _ (omega arith, omega arith)
+    (need-low _ 2 _ (omega arith, omega arith)
+    (need-low _ 3 _ (omega arith, omega arith)
+    (need-low _ 4 _ (omega arith, omega arith)
+    (need-low _ 5 _ (omega arith, omega arith) tt)))))
+    (λ g.
+    need-low _ 6 _ (omega arith, omega arith)
+    (need-low _ 7 _ (omega arith, omega arith)
+    (need-low _ 8 _ (omega arith, omega arith) tt)))
 
 -- ---- what a verdict of a writing call comes to
 abbrev pub ending : List ℕ → Verdict Written → Written

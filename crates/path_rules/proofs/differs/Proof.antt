@@ -30,7 +30,10 @@ is-found-requires c κs = search needs
 returns-2 : tie.Need-returns-2
 returns-2 c = let e = c .before .before .before in
     let a = e .before .before .before .args in
-    ap not (c .is-found .ensures ∙ searched-found _ _ _ (c .before .lookup .ensures) ∙ ap (λ p. isSome (lookup p (entriesFrom (now (a .img)) (a .rest)))) (c .before .before .path-of .ensures))
+    ap not
+    (c .is-found .ensures
+    ∙ searched-found _ _ _ (c .before .lookup .ensures)
+    ∙ ap (λ p. isSome (lookup p (entriesFrom (now (a .img)) (a .rest)))) (c .before .before .path-of .ensures))
     ∙ sym (apart-live _ _ _ (sym (e .before .is-live .ensures) ∙ not-false _ (e .if1 .left)))
 
 pub differs-spec : {M : Type 1} → statement M

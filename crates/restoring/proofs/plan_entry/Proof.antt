@@ -60,7 +60,8 @@ unfolding RetypePlanned
 returns-3 c z = let d = c .before .before in
     let f = d .before in
     restore-none _ _ (begun f .pre) (current (f .before .before .before)) _ z (good (f .before))
-    (ap (first _) (sym (opened-entries _ _ (begun f .pre) (f .first-slot .result) (f .first-slot .ensures .0))) ∙ hit-nothing _ _ _ _ (d .first-deleted .ensures) (c .enum-told .given .1))
+    (ap (first _) (sym (opened-entries _ _ (begun f .pre) (f .first-slot .result) (f .first-slot .ensures .0)))
+    ∙ hit-nothing _ _ _ _ (d .first-deleted .ensures) (c .enum-told .given .1))
 
 pub plan-entry-spec : {M : Type 1} → statement M
 plan-entry-spec =

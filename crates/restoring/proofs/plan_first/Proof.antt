@@ -29,7 +29,8 @@ counted c = c .before .before
 free : (c : tie.Else1) → isFound (looked c .lookup .result) ≡ false
 free c = sym (c .before .is-found .ensures) ∙ c .if1 .left
 
-near : (c : tie.Else2) → let x = begun (looked (placed c)) in nearestLive (entriesFrom (now (x .args .img)) (x .args .from)) (leading (now (x .args .path))) ≡ true
+near : (c : tie.Else2) → let x = begun (looked (placed c)) in
+    nearestLive (entriesFrom (now (x .args .img)) (x .args .from)) (leading (now (x .args .path))) ≡ true
 near c = sym (c .before .nearest-live .ensures) ∙ not-false _ (c .if2 .left)
 
 lookup-requires : tie.Need-lookup-requires

@@ -10,4 +10,6 @@ returns-2 c z = let r = c .before .before in
     too-late _ _ _ _ _ _ _ _ (d .sfs-reclaim .ensures) (e .if1 .left) (r .sfs-restore .ensures) z
 
 pub restored-too-late-spec : {M : Type 1} → statement M
-restored-too-late-spec = tie.close (tie.spec (λ c κs. search needs) (λ c. search needs) (λ c. search needs) (λ c κs. search needs) (λ c. search needs) returns-2)
+restored-too-late-spec =
+    tie.close
+    (tie.spec (λ c κs. search needs) (λ c. search needs) (λ c. search needs) (λ c κs. search needs) (λ c. search needs) returns-2)
