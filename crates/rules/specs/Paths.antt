@@ -12,11 +12,12 @@ pub mod Laws
 unfoldable pub isLive : Entry → Bool
 isLive e = liveType (e .kind)
 
-unfoldable pub liveAt : List ℕ → Entry → Bool
-liveAt p e = isLive e && eqList (e .path) p
-
 unfoldable pub isDeleted : Entry → Bool
 isDeleted e = deletedType (e .kind)
+
+-- it is live, or deleted, and has this path
+unfoldable pub liveAt : List ℕ → Entry → Bool
+liveAt p e = isLive e && eqList (e .path) p
 
 unfoldable pub deletedAt : List ℕ → Entry → Bool
 deletedAt p e = isDeleted e && eqList (e .path) p

@@ -192,13 +192,15 @@ deleteOf s path stamp =
     need (not (anyBelow path (entries v))) 14
     (accepted (done tt (deleted s (slotAt s (v .geometry) (e .slot)) e stamp) [])))))
 
--- ---- restore: the type and the stamp of the path's one deleted entry, file or directory
+-- ---- restore: the type and the stamp of the path's one deleted entry
+-- a deleted file is a file again, a deleted directory a directory
 unfoldable pub liveKind : ℕ → ℕ
 liveKind t = pick (fileType t) typeFile typeDirectory
 
 unfoldable pub restored : List ℕ → ℕ → Entry → ℤ → List ℕ
 restored s at e stamp = retyped s at (liveKind (e .kind)) stamp
 
+-- 11 where no deleted entry has the path, also where it is live; 19 where two or more have it
 unfoldable pub restoreOf : List ℕ → List ℕ → ℤ → Written
 restoreOf s path stamp =
     onWritable s (λ v.
