@@ -75,7 +75,7 @@ module _ (s : List ℕ) (v : Volume) (path : List ℕ) (stamp : ℤ) (o : Opens 
   pub at-path : d .it .path ≡ path
   at-path = liveAt-says path (d .it) (place .passes) .1
 
-  pub sound : pathsSound (entries v) ≡ true
+  sound : pathsSound (entries v) ≡ true
   sound = o .paths-sound
 
   pub others : All (λ e. liveAt path e ≡ false) (entriesOf (place .post))

@@ -258,7 +258,7 @@ directory-stays path f k es d n l =
         directory-same d e (f e) (k .others e o) ∙ t
 
 -- where all directories are live, the nearest is
-pub all-nearest : (es : List Entry) (p : List ℕ) → DirectoriesLive es p → nearestLive es (leading p) ≡ true
+all-nearest : (es : List Entry) (p : List ℕ) → DirectoriesLive es p → nearestLive es (leading p) ≡ true
 unfolding nearestLive
 all-nearest es p h = go (above p)
   where

@@ -27,7 +27,7 @@ pub live-cases : (P : ℕ → Type 0) → P typeDirectory → P typeFile → (t 
 unfolding liveType
 live-cases P d f t h = two-cases typeDirectory typeFile P d f t h
 
-pub deleted-cases : (P : ℕ → Type 0) → P typeDeletedDirectory → P typeDeletedFile → (t : ℕ) → deletedType t ≡ true → P t
+deleted-cases : (P : ℕ → Type 0) → P typeDeletedDirectory → P typeDeletedFile → (t : ℕ) → deletedType t ≡ true → P t
 unfolding deletedType
 deleted-cases P d f t h = two-cases typeDeletedDirectory typeDeletedFile P d f t h
 
