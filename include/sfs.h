@@ -139,15 +139,15 @@ uint32_t sfs_create_file(uint8_t *image, size_t image_len, const uint8_t *path, 
 uint32_t sfs_create_directory(uint8_t *image, size_t image_len, const uint8_t *path, size_t path_len, int64_t stamp);
 
 /*
- * Deletes a file or an empty directory. Its slots and blocks stay held, and it can be restored, until a reclaim.
+ * Deletes a file or an empty directory. Its slots and blocks stay held until a reclaim, and as long it can be restored.
  * Refusals: 1 to 11, 14.
  */
 uint32_t sfs_delete(uint8_t *image, size_t image_len, const uint8_t *path, size_t path_len, int64_t stamp);
 
 /*
  * Brings the deleted file or directory of a path back, with its bytes and with this stamp; a directory comes back without
- * what was below it. The path must not be live (12), and its directory must be (13). Where two or more deleted entries
- * have the path, none is chosen (19). Refusals: 1 to 13, 19.
+ * what was below it. 11: no deleted entry has the path, live or not. 12: one has, and the path is live again. 13: its
+ * directory is not live. 19: two or more deleted entries have the path, and none is chosen. Refusals: 1 to 13, 19.
  */
 uint32_t sfs_restore(uint8_t *image, size_t image_len, const uint8_t *path, size_t path_len, int64_t stamp);
 

@@ -302,7 +302,7 @@ static void deletes(void) {
     free(image);
 }
 
-/* A delete, then a restore: with another stamp type and stamp of the entry change, with the old one nothing. */
+/* A delete, then a restore: with the old stamp the image is what it was, with another one only the entry's stamp is new. */
 static void restores(void) {
     uint8_t *image = stamped(), *before = stamped(), *slot = before + 65536 - 320 + 64, out[16];
     struct sfs_entry found = sfs_find(image, 65536, B("d/the-second"));
@@ -337,33 +337,41 @@ static void restores_directories(void) {
     free(image);
 }
 
-/* Each refusal where a later one holds too, and no byte changes. */
+/* The answer of a restore, which changes no byte. */
+static uint32_t refused_restore(uint8_t *image, const uint8_t *path, size_t path_len) {
+    uint8_t *before = new_image(65536);
+    memcpy(before, image, 65536);
+    uint32_t refusal = sfs_restore(image, 65536, path, path_len, 9);
+    CHECK(memcmp(image, before, 65536) == 0);
+    free(before);
+    return refusal;
+}
+
+/* Each refusal, from 10 to 13 where a later one holds too. */
 static void restores_refused(void) {
-    uint8_t *image = session(), *before = new_image(65536);
-    CHECK(sfs_restore(image, 65536, B("session/verified"), 1) == SFS_NOT_FOUND); /* live, and none deleted */
+    uint8_t *image = session();
+    CHECK(refused_restore(image, B("session/verified")) == SFS_NOT_FOUND); /* live, and none deleted */
+    CHECK(refused_restore(image, B("none/verified")) == SFS_NOT_FOUND);    /* no directory either */
     CHECK(sfs_delete(image, 65536, B("session/verified"), 1) == SFS_OK);
     CHECK(sfs_create_directory(image, 65536, B("session/verified"), 2) == SFS_OK);
-    CHECK(sfs_restore(image, 65536, B("session/verified"), 1) == SFS_EXISTS);
     CHECK(sfs_delete(image, 65536, B("session/verified"), 3) == SFS_OK);
-    memcpy(before, image, 65536);
-    CHECK(sfs_restore(image, 65536, B("session/verified"), 4) == SFS_AMBIGUOUS); /* a file and a directory */
-    CHECK(sfs_restore(image, 65536, B("session//verified"), 4) == SFS_NAME);
-    CHECK(sfs_restore(image, 65536, NULL, 0, 4) == SFS_NAME);
-    CHECK(sfs_restore(image, 65536, B("session/other"), 4) == SFS_NOT_FOUND);
-    CHECK(memcmp(image, before, 65536) == 0);
-    CHECK(sfs_delete(image, 65536, B("session"), 5) == SFS_OK);
-    memcpy(before, image, 65536);
-    CHECK(sfs_restore(image, 65536, B("session/verified"), 6) == SFS_NO_DIRECTORY); /* two of them besides */
+    CHECK(refused_restore(image, B("session/verified")) == SFS_AMBIGUOUS); /* a file and a directory */
+    CHECK(refused_restore(image, B("session//verified")) == SFS_NAME);
+    CHECK(refused_restore(image, NULL, 0) == SFS_NAME);
+    CHECK(sfs_create_file(image, 65536, B("session/verified"), NULL, 0, 4) == SFS_OK);
+    CHECK(refused_restore(image, B("session/verified")) == SFS_EXISTS); /* and two deleted */
+    CHECK(sfs_delete(image, 65536, B("session/verified"), 5) == SFS_OK);
+    CHECK(sfs_delete(image, 65536, B("session"), 6) == SFS_OK);
+    CHECK(refused_restore(image, B("session/verified")) == SFS_NO_DIRECTORY); /* and three deleted */
     image[0x1AF]++;
     image[0x1BD]--;
-    CHECK(sfs_restore(image, 65536, B("session//verified"), 6) == SFS_READ_ONLY);
-    image[0x1AF]--;
+    CHECK(refused_restore(image, B("session//verified")) == SFS_READ_ONLY);
     image[0x1BD]++;
-    CHECK(memcmp(image, before, 65536) == 0);
+    CHECK(refused_restore(image, B("session//verified")) == SFS_CHECKSUM);
+    image[0x1AF]--;
     CHECK(sfs_reclaim(image, 65536, 7) == SFS_OK);
-    CHECK(sfs_restore(image, 65536, B("session"), 8) == SFS_NOT_FOUND);
+    CHECK(refused_restore(image, B("session")) == SFS_NOT_FOUND);
     free(image);
-    free(before);
 }
 
 /* After 64,000 bytes five empty files are accepted and the sixth is 15; deleting changes nothing; a reclaim does. */

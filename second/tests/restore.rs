@@ -179,7 +179,7 @@ fn directory_before_several() {
 }
 
 #[test]
-fn only_the_nearest_directory_counts() {
+fn the_nearest_directory_must_be_live() {
     let mut image = fresh(8192, 512, 1);
     for path in [b"a".as_slice(), b"a/b", b"a/bc"] {
         assert_eq!(mkdir(&mut image, path), 0);
@@ -489,5 +489,4 @@ fn lines_of_a_script() {
         assert!(session.execute(line).is_err(), "{line}");
     }
     assert_eq!(session.answers("restore")[0], 1);
-    assert!(OF_RESTORE.is_sorted());
 }

@@ -11,7 +11,7 @@ use lib.ListN.{length, getD}
 use lib.IntN.{ℤ}
 use Rattle.rules.specs.Lists.{pick, any, only, first, isSome, eqList}
 use Rattle.rules.specs.Lists.Laws.{and-left, is-some}
-use Rattle.rules.specs.Fields.{stampIn}
+use Rattle.rules.specs.Fields.{Bytes, stampIn}
 use Rattle.rules.specs.SuperBlock.{writable, version10}
 use Rattle.rules.specs.SuperBlock.Laws.{SameSealed, storedStamp}
 use Rattle.rules.specs.Names.{leading}
@@ -25,7 +25,7 @@ use Rattle.rules.specs.Writing.Laws.{refusedWrite, wrote, restore-none, restore
 use Rattle.after.specs.After.{DeletedRestored, ReclaimedRestored}
 use Rattle.laws.proofs.Lists.Parts.{some-same}
 use Rattle.laws.proofs.Lists.Every.{all-of, all-map, all-weaken, all-chosen, none-passes, none-first, first-at, any-at, one-more, all-split}
-use Rattle.laws.proofs.Index.Entries.{Bytes, retypedEntry}
+use Rattle.laws.proofs.Index.Entries.{retypedEntry}
 use Rattle.laws.proofs.Index.Slots.{slot-same}
 use Rattle.laws.proofs.Index.Places.{Found}
 use Rattle.laws.proofs.Index.Retyped.{retyped-back, retyped-written}

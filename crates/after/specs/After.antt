@@ -7,6 +7,7 @@ use mathlib.Core.Option.{some}
 use lib.IntN.{ℤ}
 use lib.Dec.{eqb}
 use Rattle.rules.specs.Lists.{pick, any, only, Perm}
+use Rattle.rules.specs.Fields.{Bytes}
 use Rattle.rules.specs.SuperBlock.{Geometry, blockLength}
 use Rattle.rules.specs.Index.{Entry, runType, typeUnusable}
 use Rattle.rules.specs.Regions.{blocksOf}
@@ -17,7 +18,6 @@ use Rattle.rules.specs.Reading.{fileBytes}
 use Rattle.rules.specs.Writing.{New, formatOf, createOf, liveKind, deleteOf, restoreOf, reclaimOf}
 use Rattle.rules.specs.Writing.Laws.{refusedWrite, wrote}
 use Rattle.rules.specs.History.{Kept, keptOf, marked, revived}
-use Rattle.laws.proofs.Index.Entries.{Bytes}
 
 -- files and directories, live or deleted; an unusable entry is none
 unfoldable pub isNamed : Entry → Bool
@@ -107,7 +107,7 @@ DeletedRestored =
     → let t : List ℕ = deleteOf s path stamp .image in
     restoreOf t path (e .stamp) ≡ pick (any (deletedAt path) (entries v)) (refusedWrite t 19) (wrote s)
 
--- a reclaim, then a restore: 11
+-- a reclaim, then a restore of any allowed path: 11
 abbrev pub ReclaimedRestored : Type 0
 ReclaimedRestored =
     (s : List ℕ) (v : Volume) (path : List ℕ) (first second : ℤ)

@@ -1,6 +1,6 @@
 -- What a plan says: the refusal of the create, or the image that it leaves and that the site lies in the image.
 use Prim.Native.Nat.{ℕ, _+_, _-_, _*_, _≤_}
-use mathlib.Core.Path.{_≡_, refl, sym, ap, ap₂, _∙_}
+use mathlib.Core.Path.{_≡_, refl, ap₂, _∙_}
 use mathlib.Core.Bool.{true, false}
 use mathlib.Core.List.{List}
 use mathlib.Core.Option.{none, some}
@@ -14,7 +14,6 @@ use Rattle.rules.specs.SuperBlock.{Geometry, blockLength, ceilingBlock, writabl
 use Rattle.rules.specs.SuperBlock.Laws.{areas-fit, ceiling-fits}
 use Rattle.rules.specs.Names.{newPathGood, leading}
 use Rattle.rules.specs.Names.Laws.{new-path}
-use Rattle.rules.specs.Index.{Item, itemsOf, entriesOf}
 use Rattle.rules.specs.Index.Laws.{continuing-new}
 use Rattle.rules.specs.Regions.{blocksNeeded}
 use Rattle.rules.specs.Regions.Laws.{needed-covers}
@@ -28,12 +27,7 @@ use Rattle.laws.proofs.Images.Sizes.{block-same}
 use Rattle.laws.proofs.Images.Placing.{newGeometry, Placed, run-place, RunFits, run-inside, Grown, place-grown, Sizes, new-sizes}
 use Rattle.geometry.specs.View.{geometryView}
 use Rattle.geometry.specs.declared.Geometry.{Geometry as Held}
-use Rattle.index.specs.declared.Cursor.{Cursor}
-use Rattle.index.specs.View.{itemsFrom}
-use Rattle.index.specs.Steps.{entriesFrom}
 use Rattle.judging.specs.View.{Opened, volumeOf}
-use Rattle.paths.specs.View.{Searched, isFound, searched-found}
-use Rattle.paths.specs.declared.Search.{Search}
 use Rattle.placing.specs.Site.{siteView, NewIn}
 use Rattle.placing.specs.declared.Site.{Site}
 use Rattle.planning.specs.Places.{siteFrom}
@@ -48,14 +42,6 @@ Planned s new path stamp (At p) = (createOf s new path stamp ≡ wrote (created 
 pub planned-refused : (s : List ℕ) (new : New) (path : List ℕ) (stamp : ℤ) (n : ℕ) → judge s ≡ refused n → Planned s new path stamp (Refused n)
 unfolding Planned
 planned-refused s new path stamp n e = create-refused s n e new path stamp
-
--- the searches, of all entries
-module _ (s : List ℕ) (g : Geometry) (c : Cursor) (items : itemsFrom s c ≡ itemsOf s g) (path : List ℕ) where
-  pub found-is : (r : Search) → Searched s (lookup path (entriesFrom s c)) r → isSome (lookup path (entries (volumeOf s g))) ≡ isFound r
-  found-is r told = ap (λ (is : List Item). isSome (lookup path (entriesOf is))) (sym items) ∙ sym (searched-found s _ r told)
-
-  pub nearest-is : nearestLive (entries (volumeOf s g)) (leading path) ≡ nearestLive (entriesFrom s c) (leading path)
-  nearest-is = ap (λ (is : List Item). nearestLive (entriesOf is) (leading path)) (sym items)
 
 -- the tests 9 to 13 passed
 pub record Admitted (s : List ℕ) (g : Held) (path : List ℕ) : Type 0 where

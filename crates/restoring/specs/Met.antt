@@ -24,8 +24,9 @@ use Rattle.index.specs.declared.Cursor.{Cursor}
 use Rattle.index.specs.View.{Inside, itemsFrom}
 use Rattle.index.specs.Steps.{Walks, entriesFrom}
 use Rattle.paths.specs.declared.Search.{Search}
-use Rattle.paths.specs.View.{Searched, HitAt, isFound, searched-found, hit-first}
+use Rattle.paths.specs.View.{Searched, HitAt, isFound, hit-first}
 use Rattle.judging.specs.View.{Opened, volumeOf, opened-walks, opened-entries}
+use Rattle.judging.specs.Searches.{found-is, nearest-is}
 use Rattle.retyping.specs.Planned.{RetypePlanned}
 use Rattle.retyping.specs.declared.Retyping.the-variants.{Refused}
 
@@ -54,31 +55,31 @@ module _ (s path : List ℕ) (g : Held) (from : Cursor) (h : Head) (rest : Curso
   alone : leb (length (only (deletedAt path) (entries v))) 1 ≡ not (any (deletedAt path) (entriesFrom s rest))
   alone = only-one (deletedAt path) (entries v) (headView s h) (entriesFrom s rest) (ap (only (deletedAt path)) (sym same) ∙ m .hit .chosen)
 
-  live-is : (r : Search) → Searched s (lookup path (entriesFrom s from)) r → isSome (lookup path (entries v)) ≡ isFound r
-  live-is r told = ap (λ es. isSome (lookup path es)) (sym same) ∙ sym (searched-found s _ r told)
-
-  nearest-is : nearestLive (entries v) (leading path) ≡ nearestLive (entriesFrom s from) (leading path)
-  nearest-is = ap (λ es. nearestLive es (leading path)) (sym same)
-
   -- ---- by the tests, in their order
+  near-is : nearestLive (entries v) (leading path) ≡ nearestLive (entriesFrom s from) (leading path)
+  near-is = nearest-is s (geometryView g) from (m .items) path
+
   module _ (r : Search) (told : Searched s (lookup path (entriesFrom s from)) r) where
+    live-is : isSome (lookup path (entries v)) ≡ isFound r
+    live-is = found-is s (geometryView g) from (m .items) path r told
+
     pub met-live : isFound r ≡ true → RetypePlanned s (restoreOf s path) (Refused 12)
     unfolding RetypePlanned
-    met-live l z = restore-live s v (m .opened) (m .may) path z (m .named) (headView s h) met-first (live-is r told ∙ l)
+    met-live l z = restore-live s v (m .opened) (m .may) path z (m .named) (headView s h) met-first (live-is ∙ l)
 
     module _ (l : isFound r ≡ false) where
       pub met-orphan : nearestLive (entriesFrom s from) (leading path) ≡ false → RetypePlanned s (restoreOf s path) (Refused 13)
       unfolding RetypePlanned
-      met-orphan d z = restore-orphan s v (m .opened) (m .may) path z (m .named) (headView s h) met-first (live-is r told ∙ l) (nearest-is ∙ d)
+      met-orphan d z = restore-orphan s v (m .opened) (m .may) path z (m .named) (headView s h) met-first (live-is ∙ l) (near-is ∙ d)
 
       module _ (d : nearestLive (entriesFrom s from) (leading path) ≡ true) where
         pub met-several : any (deletedAt path) (entriesFrom s rest) ≡ true → RetypePlanned s (restoreOf s path) (Refused 19)
         unfolding RetypePlanned
         met-several n z =
-            restore-several s v (m .opened) (m .may) path z (m .named) (headView s h) met-first (live-is r told ∙ l) (nearest-is ∙ d) (alone ∙ ap not n)
+            restore-several s v (m .opened) (m .may) path z (m .named) (headView s h) met-first (live-is ∙ l) (near-is ∙ d) (alone ∙ ap not n)
 
         pub met-alone : any (deletedAt path) (entriesFrom s rest) ≡ false → (z : ℤ)
             → restoreOf s path z ≡ wrote (retyped s (slotAt s (geometryView g) (h .slot .0)) (liveKind (h .kind)) z)
         unfolding restored headView
         met-alone n z =
-            restore-done s v (m .opened) (m .may) path z (m .named) (headView s h) met-first (live-is r told ∙ l) (nearest-is ∙ d) (alone ∙ ap not n)
+            restore-done s v (m .opened) (m .may) path z (m .named) (headView s h) met-first (live-is ∙ l) (near-is ∙ d) (alone ∙ ap not n)

@@ -1,5 +1,5 @@
 -- 01, "Sizes": fields are little-endian; stamps are signed, other fields unsigned. And the checksum of "Super-block".
-use Prim.Native.Nat.{ℕ, zero, suc, _+_, _-_, _*_, _/_, _%_, _^_}
+use Prim.Native.Nat.{ℕ, zero, suc, _+_, _-_, _*_, _/_, _%_, _^_, _<_}
 use mathlib.Core.Bool.{Bool, false, _||_}
 use mathlib.Core.List.{List, [], _∷_, _++_}
 use lib.ListN.{length, getD, take, drop}
@@ -8,6 +8,10 @@ use lib.IntN.{ℤ, pos, negsuc}
 pub mod Laws
 pub mod Signed
 use Rattle.rules.specs.Lists.{pick, sum}
+
+-- every element is a byte, as in what a caller lends; the definitions take any list of numbers
+abbrev pub Bytes : List ℕ → Type 0
+Bytes s = (i : ℕ) → getD s i 0 < 256
 
 -- the byte at a place; 0 past the end
 unfoldable pub byteAt : List ℕ → ℕ → ℕ

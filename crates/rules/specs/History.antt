@@ -1,4 +1,4 @@
--- 01, "The history": what it holds, how each call feeds it, and the statements of demand 3 and of the claim about two images.
+-- 01, "The history", with restore as K2 adds it: what it holds, how each call feeds it, and the statements of demand 3 and of the claim about two images.
 use Prim.Native.Nat.{ℕ, _+_, _-_, _*_, _≤_}
 use mathlib.Core.Path.{_≡_}
 use mathlib.Core.Bool.{Bool, true, false, _&&_, _||_, not}
@@ -84,7 +84,7 @@ withLive k live = record { path = k .path; kind = k .kind; bytes = k .bytes; blo
 unfoldable pub marked : List ℕ → Kept → Kept
 marked p k = withLive k (k .live && not (eqList (k .path) p))
 
--- the path's deleted entry is live again; a restore is accepted where there is one, and no live one
+-- the path's deleted entry is live again, as the path's last creation: a restore is accepted where the path has just one entry, a deleted one
 unfoldable pub revived : List ℕ → Kept → Kept
 revived p k = withLive k (k .live || eqList (k .path) p)
 

@@ -15,10 +15,11 @@ isLive e = liveType (e .kind)
 unfoldable pub isDeleted : Entry → Bool
 isDeleted e = deletedType (e .kind)
 
--- it is live, or deleted, and has this path
+-- a live entry of this path
 unfoldable pub liveAt : List ℕ → Entry → Bool
 liveAt p e = isLive e && eqList (e .path) p
 
+-- a deleted entry of this path
 unfoldable pub deletedAt : List ℕ → Entry → Bool
 deletedAt p e = isDeleted e && eqList (e .path) p
 

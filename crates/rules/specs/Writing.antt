@@ -1,4 +1,4 @@
--- 01, "The calls": format, create, delete, restore and reclaim. They give no number but the refusal.
+-- 01, "The calls": format, create, delete, restore (which K2 adds) and reclaim. They give no number but the refusal.
 use Prim.Native.Nat.{ℕ, zero, suc, _+_, _-_, _*_, _/_}
 use mathlib.Core.Bool.{Bool, true, false, _&&_, not}
 use mathlib.Core.List.{List, [], _∷_, _++_}
@@ -192,7 +192,7 @@ deleteOf s path stamp =
     need (not (anyBelow path (entries v))) 14
     (accepted (done tt (deleted s (slotAt s (v .geometry) (e .slot)) e stamp) [])))))
 
--- ---- restore: the type and the stamp of the path's one deleted entry
+-- ---- restore, request K2: the type and the stamp of the path's one deleted entry
 -- a deleted file is a file again, a deleted directory a directory
 unfoldable pub liveKind : ℕ → ℕ
 liveKind t = pick (fileType t) typeFile typeDirectory

@@ -1,10 +1,10 @@
 // The exported calls, one after the other: a delete undone, and a restore that comes too late.
 
-ghost use mathlib.Core.Path.{_≡_};
+ghost use Rattle.undoing.specs.Undone.{Undone, TooLate};
 
-// A delete, and a restore with the stamp that was found: where both are served, no byte of the image has changed.
+// A delete, and a restore with the stamp that was found.
 pub fn delete_undone(image: &mut [u8], path: &[u8], stamp: i64) -> u32
-    ensures { λ r. ⌜ (r ≡ 0 → now (image .exit) ≡ now (image .entry)) ⌝ }
+    ensures { λ r. ⌜ Undone (now (image .entry)) (now (path .entry)) stamp r (now (image .exit)) ⌝ }
 {
     let found = sfs::sfs_find(image, path);
     let refusal = sfs::sfs_delete(image, path, stamp);
@@ -14,9 +14,9 @@ pub fn delete_undone(image: &mut [u8], path: &[u8], stamp: i64) -> u32
     sfs::sfs_restore(image, path, found.stamp)
 }
 
-// After a reclaim there is nothing to restore, whatever the path and the stamps.
+// A reclaim, and a restore behind it.
 pub fn restored_too_late(image: &mut [u8], path: &[u8], reclaimed: i64, restored: i64) -> u32
-    ensures { λ r. ⌜ (r ≡ 0 → ⊥) ⌝ }
+    ensures { λ r. ⌜ TooLate (now (image .entry)) (now (path .entry)) reclaimed r (now (image .exit)) ⌝ }
 {
     let refusal = sfs::sfs_reclaim(image, reclaimed);
     if refusal != 0 {

@@ -11,7 +11,7 @@ use Rattle.rules.specs.Refusals.Laws.{then-next}
 use Rattle.rules.specs.Outcome.{done, conclude, onVolume}
 use Rattle.rules.specs.Writing.{Written, onWritable}
 
--- ---- the refusals of opening have numbers from 1 to 9
+-- ---- the refusals of opening have one digit, and none is 0
 abbrev pub Low : {A : Type 0} → Verdict A → Type 0
 Low (refused n) = (0 < n) × (n < 10)
 Low (accepted x) = Unit {0}

@@ -5,12 +5,12 @@ use mathlib.Core.Bool.{true, false}
 use mathlib.Core.List.{List, []}
 use mathlib.Core.Logic.{_⊎_, inl, inr}
 use native.Mathlib.Omega.{arith}
-use lib.ListN.{length, getD, drop, length-take, length-drop}
+use lib.ListN.{length, drop, length-take, length-drop}
 use lib.IntN.{ℤ}
 use lib.Signed.{mag}
 use Rattle.rules.specs.Lists.{All}
 use Rattle.rules.specs.Lists.Laws.{clash, pick-false, and-true}
-use Rattle.rules.specs.Fields.{byteAt, le, hasZero, upToZero, stampIn}
+use Rattle.rules.specs.Fields.{Bytes, byteAt, le, hasZero, upToZero, stampIn}
 use Rattle.rules.specs.Fields.Laws.{le-lt, upToZero-take}
 use Rattle.rules.specs.Fields.Signed.{signedOf-mag}
 use Rattle.rules.specs.SuperBlock.{Geometry}
@@ -119,10 +119,6 @@ entry-run left k a e q t = by (entry-from left k a e q)
     by (inr h) = clash (sym (rw (unusable-kind k a e h) at t))
 
 -- ---- its numbers
--- every element is a byte
-abbrev pub Bytes : List ℕ → Type 0
-Bytes s = (i : ℕ) → getD s i 0 < 256
-
 pub record Numbers (e : Entry) : Type 0 where
   pub ends : e .end < 2 ^ 64
   pub lengths : e .length < 2 ^ 64

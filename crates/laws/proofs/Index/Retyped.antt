@@ -11,7 +11,7 @@ use lib.Seq.{ext-getD}
 use lib.IntN.{ℤ}
 use Rattle.rules.specs.Lists.{pick}
 use Rattle.rules.specs.Lists.Laws.{drop-take}
-use Rattle.rules.specs.Fields.{byteAt, le, leBytes, splice, signedOf, stampIn, stampBytes}
+use Rattle.rules.specs.Fields.{Bytes, byteAt, le, leBytes, splice, signedOf, stampIn, stampBytes}
 use Rattle.rules.specs.Fields.Laws.{length-splice, getD-splice-before, getD-splice-in, getD-splice-after, le-splice-in, le-splice-after, le-lt, leBytes-le}
 use Rattle.rules.specs.Fields.Signed.{bits-signed}
 use Rattle.rules.specs.SuperBlock.Laws.{storedStamp}
@@ -19,7 +19,7 @@ use Rattle.rules.specs.Index.{Entry, entry, itemAt, entryAt, runSlots, nameFiel
 use Rattle.rules.specs.Index.Laws.{name-at-bounds}
 use Rattle.rules.specs.Index.Items.{item-run}
 use Rattle.laws.proofs.Lists.Spans.{SameBut, but-splice, but-wider, but-then, but-drop, drop-splice-part}
-use Rattle.laws.proofs.Index.Entries.{Bytes, retypedEntry, entry-run, run-kind}
+use Rattle.laws.proofs.Index.Entries.{retypedEntry, entry-run, run-kind}
 use Rattle.laws.proofs.Index.Runs.{length-stamp}
 
 -- ---- the write: ten bytes from the slot's start

@@ -9,6 +9,7 @@ use lib.ListN.{length, length-append, drop}
 use borrow.Author.Tests.{leb-true}
 use Rattle.rules.specs.Lists.{only, sum}
 use Rattle.rules.specs.Lists.Laws.{sum-parts}
+use Rattle.rules.specs.Fields.{Bytes}
 use Rattle.rules.specs.Text.Laws.{decimal-length}
 use Rattle.rules.specs.Index.{Entry, innerSlots, itemAt, itemsOf, slotAt, fileType, walkAll}
 use Rattle.rules.specs.Regions.{blocksOf, heldBlocks}
@@ -16,7 +17,6 @@ use Rattle.rules.specs.Paths.{isLive}
 use Rattle.rules.specs.Refusals.{Verdict, refused, accepted, need, Volume, entries, judge}
 use Rattle.rules.specs.Refusals.Laws.{Opens, judge-opens, need-accepted}
 use Rattle.rules.specs.Listing.{lineOf, linesOf, countLine, refusedLine, volumeText, listingOf}
-use Rattle.laws.proofs.Index.Entries.{Bytes}
 use Rattle.laws.proofs.Images.Accepted.{Low, need-low, judge-low}
 use Rattle.laws.proofs.Index.Slots.{inner-slots}
 use Rattle.laws.proofs.Index.Ends.{name-fits}

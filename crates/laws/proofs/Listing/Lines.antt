@@ -4,12 +4,13 @@ use mathlib.Core.Path.{ap}
 use mathlib.Core.List.{List}
 use native.Mathlib.Omega.{arith}
 use lib.ListN.{length, length-append}
+use Rattle.rules.specs.Fields.{Bytes}
 use Rattle.rules.specs.Text.Laws.{decimal-64}
 use Rattle.rules.specs.Dates.Text.{moment-text-fits}
 use Rattle.rules.specs.Index.{Entry, itemAt}
 use Rattle.rules.specs.Regions.{blocksOf}
 use Rattle.rules.specs.Listing.{lineOf}
-use Rattle.laws.proofs.Index.Entries.{Bytes, Numbers, IsRun, item-cases, run-slots, run-within, run-numbers, run-path-length, unusable-slots, unusable-bare, unusable-numbers}
+use Rattle.laws.proofs.Index.Entries.{Numbers, IsRun, item-cases, run-slots, run-within, run-numbers, run-path-length, unusable-slots, unusable-bare, unusable-numbers}
 use Rattle.laws.proofs.Listing.Weights.{Weighs}
 
 line-length : (e : Entry) → Numbers e → length (lineOf e) ≤ 55 + length (e .path)

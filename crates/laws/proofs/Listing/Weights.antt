@@ -7,8 +7,8 @@ use native.Mathlib.Omega.{arith}
 use lib.ListN.{drop}
 use lib.Seq.{getD-drop}
 use Rattle.rules.specs.Lists.{sum}
+use Rattle.rules.specs.Fields.{Bytes}
 use Rattle.rules.specs.Index.{Entry, Item, unused, entry, fault, itemAt, followed, walk, slotBytes, entriesOf}
-use Rattle.laws.proofs.Index.Entries.{Bytes}
 
 pub bytes-drop : (n : ℕ) (s : List ℕ) → Bytes s → Bytes (drop n s)
 bytes-drop n s h i = rw (getD-drop n s i 0) (h (n + i))

@@ -11,7 +11,8 @@ use Rattle.rules.specs.Writing.{nearestLive}
 use Rattle.geometry.specs.View.{geometryView}
 use Rattle.index.specs.Steps.{Walks}
 use Rattle.judging.specs.View.{volumeOf, opened-super, opened-walks}
-use Rattle.planning.specs.Planned.{found-is, nearest-is, planned-later, planned-name, planned-live, planned-orphan, admitted}
+use Rattle.judging.specs.Searches.{found-is, nearest-is}
+use Rattle.planning.specs.Planned.{planned-later, planned-name, planned-live, planned-orphan, admitted}
 use borrow.Author.Needs.{needs}
 use Rattle.planning.proofs.plan_opened.Statement.{statement}
 use Rattle.planning.proofs.plan_opened.Tie as tie

@@ -15,7 +15,7 @@ use Rattle.rules.specs.Lists.Laws.{pick-true, pick-false}
 use lib.Dec.{ltb, leb·suc-suc}
 use mathlib.Core.Bool.{true}
 use Rattle.rules.specs.Lists.{sum, part, padded}
-use Rattle.rules.specs.Fields.{le, leBytes, splice, byteSum, checks, checksumOf, upToZero, hasZero, byteAt}
+use Rattle.rules.specs.Fields.{Bytes, le, leBytes, splice, byteSum, checks, checksumOf, upToZero, hasZero, byteAt}
 use Rattle.rules.specs.Lists.Laws.{getD-part, part-ext}
 
 -- ---- le
@@ -36,7 +36,7 @@ pub pow-step : (w : ℕ) → 2 ^ (8 * suc w) ≡ 256 * 2 ^ (8 * w)
 pow-step w = ap (λ (k : ℕ). 2 ^ k) (omega arith) ∙ pow-add 2 8 (8 * w)
 
 -- a number of w bytes is below 2 ^ (8 w)
-pub le-lt : (w : ℕ) (s : List ℕ) (at : ℕ) → ((i : ℕ) → getD s i 0 < 256) → le w s at < 2 ^ (8 * w)
+pub le-lt : (w : ℕ) (s : List ℕ) (at : ℕ) → Bytes s → le w s at < 2 ^ (8 * w)
 unfolding le
 le-lt zero s at h = omega arith
 le-lt (suc w) s at h = omega (arith, h at, le-lt w s (at + 1) h, pow-step w)
@@ -132,7 +132,7 @@ le-leBytes (suc w) v h =
     omega (arith, le-shift w (v % 256) (leBytes w (v / 256)))
 
 -- the bytes of what w bytes say are those bytes
-pub leBytes-le : (w : ℕ) (s : List ℕ) (at : ℕ) → ((i : ℕ) → getD s i 0 < 256) → (j : ℕ) → j < w → getD (leBytes w (le w s at)) j 0 ≡ getD s (at + j) 0
+pub leBytes-le : (w : ℕ) (s : List ℕ) (at : ℕ) → Bytes s → (j : ℕ) → j < w → getD (leBytes w (le w s at)) j 0 ≡ getD s (at + j) 0
 unfolding le leBytes
 leBytes-le zero s at h j l = absurd (omega arith)
 leBytes-le (suc w) s at h zero l = simp add-zero (omega (arith, h at))

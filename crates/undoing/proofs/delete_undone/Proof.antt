@@ -1,21 +1,35 @@
+use mathlib.Core.Path.{ap, _∙_}
+use denote.Ref.{now}
 use mir.Syntax.{w64}
 use mir.ValLaws.{toZ-ofZ}
-use Rattle.undoing.proofs.Calls.{undone}
+use Rattle.rules.specs.Writing.{deleteOf}
+use Rattle.contracts.specs.Contracts.{Deletes}
+use Rattle.undoing.proofs.Calls.{not-deleted, undone}
 use borrow.Author.Needs.{needs}
 use Rattle.undoing.proofs.delete_undone.Statement.{statement}
 use Rattle.undoing.proofs.delete_undone.Tie as tie
 
+-- the places before, one behind the other
+abbrev begun : tie.After-sfs-find → tie.Start
+begun c = c .before .before .before .before
+
+abbrev found : tie.After-sfs-delete → tie.After-sfs-find
+found c = c .before .before
+
+deletes : (c : tie.After-sfs-delete) → let x = begun (found c) in
+    Deletes (now (x .args .image)) (now (x .args .path)) (x .args .stamp) (c .sfs-delete .result) (c .sfs-delete .last .0)
+deletes c = let x = begun (found c) in
+    c .sfs-delete .ensures ∙ ap (deleteOf (now (x .args .image)) (now (x .args .path))) (toZ-ofZ w64 (x .args .stamp) (x .fits .stamp))
+
 returns : tie.Need-returns
-returns c z = absurd (c .if1 .taken z)
+returns c = not-deleted _ _ _ _ _ (deletes (c .before .before .before)) (c .if1 .taken)
 
 returns-2 : tie.Need-returns-2
-returns-2 c z = let r = c .before .before in
-    let e = r .before .before .before in
-    let d = e .before .before .before in
-    let f = d .before .before in
-    undone _ _ _ _ _ _ (f .sfs-find .result) _ _ (λ i. f .before .before .before .slice-known .given i .fits)
-    (f .sfs-find .ensures) (d .sfs-delete .ensures) (e .if1 .left)
-    (toZ-ofZ w64 _ (record { sfits = r .before .struct-told .given .1 .1 .1 .1 .1 .1 .0 .1 })) (r .sfs-restore .ensures) z
+returns-2 c = let r = c .before .before in
+    let d = r .before .before .before .before .before .before in
+    let f = found d in
+    undone _ _ _ _ _ _ (f .sfs-find .result) _ _ (λ i. f .before .before .before .slice-known .given i .fits) (f .sfs-find .ensures) (deletes d)
+    (toZ-ofZ w64 _ (record { sfits = r .before .struct-told .given .1 .1 .1 .1 .1 .1 .0 .1 })) (r .sfs-restore .ensures)
 
 pub delete-undone-spec : {M : Type 1} → statement M
 delete-undone-spec =

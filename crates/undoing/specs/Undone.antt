@@ -1,0 +1,18 @@
+-- What two exported calls come to, one after the other, on any image s and with any arguments; u is the image that is left.
+use Prim.Native.Nat.{ℕ}
+use mathlib.Core.Path.{_≡_}
+use mathlib.Core.List.{List}
+use mathlib.Core.Logic.{_⊎_}
+use lib.IntN.{ℤ}
+use Rattle.rules.specs.Lists.{pick}
+use Rattle.rules.specs.Names.{pathGood}
+use Rattle.rules.specs.Writing.{deleteOf, reclaimOf}
+
+-- a delete that is served, then a restore with the stamp that was found: the image from before, byte for byte; or 19, where another entry of the
+-- path had been deleted before
+abbrev pub Undone : List ℕ → List ℕ → ℤ → ℕ → List ℕ → Type 0
+Undone s path stamp r u = deleteOf s path stamp .refusal ≡ 0 → ((r ≡ 0) × (u ≡ s)) ⊎ ((r ≡ 19) × (u ≡ deleteOf s path stamp .image))
+
+-- a reclaim that is served, then a restore: 11 of every allowed path, and the restore writes nothing
+abbrev pub TooLate : List ℕ → List ℕ → ℤ → ℕ → List ℕ → Type 0
+TooLate s path stamp r u = reclaimOf s stamp .refusal ≡ 0 → (r ≡ pick (pathGood path) 11 10) × (u ≡ reclaimOf s stamp .image)
