@@ -4,7 +4,6 @@ mod common;
 
 use common::*;
 use second::history::{History, Told};
-use second::refusal::OF_RESTORE;
 use second::script::Session;
 use second::superblock::{CHECKSUM, INDEX, MAGIC, STAMP, TOTAL, VERSION};
 use second::{delete, find, format, list, listing, read, reclaim, restore, Listed};
