@@ -139,8 +139,8 @@ uint32_t sfs_create_file(uint8_t *image, size_t image_len, const uint8_t *path, 
 uint32_t sfs_create_directory(uint8_t *image, size_t image_len, const uint8_t *path, size_t path_len, int64_t stamp);
 
 /*
- * Deletes a file or an empty directory. Its slots and blocks stay held until a reclaim, and as long it can be restored.
- * Refusals: 1 to 11, 14.
+ * Deletes a file or an empty directory. Its slots and blocks stay held until a reclaim; before that, sfs_restore can
+ * bring it back. Refusals: 1 to 11, 14.
  */
 uint32_t sfs_delete(uint8_t *image, size_t image_len, const uint8_t *path, size_t path_len, int64_t stamp);
 
