@@ -143,7 +143,7 @@ fn passes(img: &[u8], h: Head, what: Sought, path: &[u8]) -> bool
     }
 }
 
-// The first entry that passes.
+// The first entry that passes, and where the walk goes on behind it.
 fn next_hit(img: &[u8], from: Cursor, what: Sought, path: &[u8]) -> Hit
     requires { ⌜ Walks (now img) from ⌝ }
     ensures { λ r. ⌜ Hits (now (img .entry)) (passes what (now (path .entry))) (entriesFrom (now (img .entry)) from) r ⌝ }
@@ -162,6 +162,7 @@ fn next_hit(img: &[u8], from: Cursor, what: Sought, path: &[u8]) -> Hit
     }
 }
 
+// The first entry that passes.
 fn seek(img: &[u8], from: Cursor, what: Sought, path: &[u8]) -> Search
     requires { ⌜ Walks (now img) from ⌝ }
     ensures { λ r. ⌜ Searched (now (img .entry)) (first (passes what (now (path .entry))) (entriesFrom (now (img .entry)) from)) r ⌝ }
