@@ -1,17 +1,26 @@
 -- Tests over entries, one at a time.
 use Prim.Native.Nat.{ℕ}
-use mathlib.Core.Path.{_≡_, sym}
+use mathlib.Core.Path.{_≡_, refl, sym, ap, _∙_}
 use mathlib.Core.Bool.{Bool, true, false}
 use mathlib.Core.List.{List, [], _∷_}
-use borrow.Author.Tests.{eq-eqb, ne-eqb}
-use Rattle.rules.specs.Lists.{only, eqList}
-use Rattle.rules.specs.Lists.Laws.{only-nil, only-yes, only-no}
-use Rattle.rules.specs.Index.{Entry, liveType, deletedType, typeDirectory}
-use Rattle.rules.specs.Names.{isBelow}
+use lib.Dec.{leb}
+use borrow.Author.Tests.{eqb-true}
+use Rattle.rules.specs.Lists.{pick, only, eqList}
+use Rattle.rules.specs.Lists.Laws.{clash, and-true, only-nil, only-yes, only-no}
+use Rattle.rules.specs.Fields.{hasZero}
+use Rattle.rules.specs.Index.{Entry, runType, typeDirectory, nameGood}
+use Rattle.rules.specs.Names.{slash, isBelow}
 use Rattle.rules.specs.Paths.{isLive, isDeleted, liveAt, deletedAt, isDirectoryAt}
+use Rattle.rules.specs.Paths.Laws.{live-run, gone-run, directory-run}
+use Rattle.rules.specs.Comparing.{looked}
+use Rattle.comparing.specs.Walk.{isThen}
+use Rattle.comparing.specs.Names.{then-path, then-below}
+use Rattle.units.specs.declared.Slot.{Slot}
 use Rattle.slots.specs.declared.Head.{Head}
-use Rattle.slots.specs.View.{headView}
-use Rattle.paths.specs.View.{liveBelow}
+use Rattle.slots.specs.View.{headView, HeadIn, path-is}
+use Rattle.paths.specs.declared.Sought.{Sought}
+use Rattle.paths.specs.declared.Sought.the-variants.{Path as byPath, Deleted as byDeleted, Directory as byDirectory, Below as byBelow, From as bySlot}
+use Rattle.paths.specs.View.{liveBelow, soughtKind, passes, compares, nameOf, headLooked}
 
 -- ---- a turn of a walk over es: none is left, or x is next and xs behind it
 module _ (p : Entry → Bool) (es : List Entry) where
@@ -25,36 +34,67 @@ module _ (p : Entry → Bool) (es : List Entry) where
     pub only-next : p x ≡ false → only p xs ≡ only p es
     only-next t = sym (rw next (only-no p x xs t))
 
--- ---- a head is tested by its type first
+-- ---- the name of a run, compared
+module _ (s p : List ℕ) (h : Head) (head : HeadIn s h) (run : runType (h .kind) ≡ true) (same : Bool) (n : ℕ) (f : List ℕ) (field : f ≡ nameOf s h) (count : n ≡ looked f p) where
+  pub name-is : same ≡ isThen 0 f p → (same ≡ eqList (headView s h .path) p) × (n ≡ looked (nameOf s h) p)
+  unfolding nameGood
+  name-is e =
+      let z = and-true (hasZero (nameOf s h)) _ (head .named run) .0 in
+      (e ∙ ap (λ x. isThen 0 x p) field ∙ then-path (nameOf s h) p z ∙ ap (λ x. eqList x p) (sym (path-is s h head run)), count ∙ ap (λ x. looked x p) field)
+
+  pub name-below : same ≡ isThen slash f p → (same ≡ isBelow p (headView s h .path)) × (n ≡ looked (nameOf s h) p)
+  name-below e =
+      (e ∙ ap (λ x. isThen slash x p) field ∙ then-below (nameOf s h) p ∙ ap (isBelow p) (sym (path-is s h head run)), count ∙ ap (λ x. looked x p) field)
+
+-- ---- an entry, tried by its kind first
 module _ (s p : List ℕ) (h : Head) where
-  pub live-no : liveType (h .kind) ≡ false → liveAt p (headView s h) ≡ false
-  unfolding liveAt isLive headView
-  live-no t = rw t
+  -- what a trial answers
+  abbrev pub Tried : Sought → Bool → ℕ → Type 0
+  Tried what same n = (same ≡ passes what p (headView s h)) × (n ≡ headLooked s h what p)
 
-  pub live-yes : liveType (h .kind) ≡ true → liveAt p (headView s h) ≡ eqList (headView s h .path) p
-  unfolding liveAt isLive headView
-  live-yes t = rw t
+  pub tried-not : (what : Sought) → soughtKind what (h .kind) ≡ false → Tried what false 0
+  unfolding soughtKind passes compares headLooked liveAt deletedAt isDirectoryAt liveBelow isLive isDeleted headView pick
+  tried-not byPath t = rw t (refl, refl)
+  tried-not byDeleted t = rw t (refl, refl)
+  tried-not byDirectory t = rw t (refl, refl)
+  tried-not byBelow t = rw t (refl, refl)
+  tried-not (bySlot k) t = rw t (refl, refl)
 
-  pub deleted-no : deletedType (h .kind) ≡ false → deletedAt p (headView s h) ≡ false
-  unfolding deletedAt isDeleted headView
-  deleted-no t = rw t
+  -- what compares names
+  module _ (same : Bool) (n : ℕ) (count : n ≡ looked (nameOf s h) p) where
+    pub tried-path : soughtKind byPath (h .kind) ≡ true → same ≡ eqList (headView s h .path) p → Tried byPath same n
+    unfolding soughtKind passes compares headLooked liveAt isLive headView pick
+    tried-path t e = rw t (e, count)
 
-  pub deleted-yes : deletedType (h .kind) ≡ true → deletedAt p (headView s h) ≡ eqList (headView s h .path) p
-  unfolding deletedAt isDeleted headView
-  deleted-yes t = rw t
+    pub tried-deleted : soughtKind byDeleted (h .kind) ≡ true → same ≡ eqList (headView s h .path) p → Tried byDeleted same n
+    unfolding soughtKind passes compares headLooked deletedAt isDeleted headView pick
+    tried-deleted t e = rw t (e, count)
 
-  pub below-no : liveType (h .kind) ≡ false → liveBelow p (headView s h) ≡ false
-  unfolding liveBelow isLive headView
-  below-no t = rw t
+    pub tried-directory : soughtKind byDirectory (h .kind) ≡ true → same ≡ eqList (headView s h .path) p → Tried byDirectory same n
+    unfolding soughtKind passes compares headLooked isDirectoryAt headView pick
+    tried-directory t e = rw t (e, count)
 
-  pub below-yes : liveType (h .kind) ≡ true → liveBelow p (headView s h) ≡ isBelow p (headView s h .path)
-  unfolding liveBelow isLive headView
-  below-yes t = rw t
+    pub tried-below : soughtKind byBelow (h .kind) ≡ true → same ≡ isBelow p (headView s h .path) → Tried byBelow same n
+    unfolding soughtKind passes compares headLooked liveBelow isLive headView pick
+    tried-below t e = rw t (e, count)
 
-  pub directory-no : (h .kind ≡ typeDirectory → ⊥) → isDirectoryAt p (headView s h) ≡ false
-  unfolding isDirectoryAt headView
-  directory-no d = rw (ne-eqb (h .kind) typeDirectory d)
+  pub tried-from : (k : Slot) (same : Bool) → soughtKind (bySlot k) (h .kind) ≡ true → same ≡ leb (k .0) (h .slot .0) → Tried (bySlot k) same 0
+  unfolding soughtKind passes compares headLooked isLive headView pick
+  tried-from k same t e = rw t (e, refl)
 
-  pub directory-yes : h .kind ≡ typeDirectory → isDirectoryAt p (headView s h) ≡ eqList (headView s h .path) p
-  unfolding isDirectoryAt headView
-  directory-yes e = rw (eq-eqb (h .kind) typeDirectory e)
+  pub sought-run : (what : Sought) → soughtKind what (h .kind) ≡ true → runType (h .kind) ≡ true
+  unfolding soughtKind
+  sought-run byPath t = live-run (h .kind) t
+  sought-run byDeleted t = gone-run (h .kind) t
+  sought-run byDirectory t = directory-run (h .kind) (eqb-true (h .kind) typeDirectory t)
+  sought-run byBelow t = live-run (h .kind) t
+  sought-run (bySlot k) t = live-run (h .kind) t
+
+  -- a name that is compared is a run's
+  pub compared-run : (what : Sought) → compares what (headView s h) ≡ true → runType (h .kind) ≡ true
+  unfolding compares isLive isDeleted headView
+  compared-run byPath t = live-run (h .kind) t
+  compared-run byDeleted t = gone-run (h .kind) t
+  compared-run byDirectory t = directory-run (h .kind) (eqb-true (h .kind) typeDirectory t)
+  compared-run byBelow t = live-run (h .kind) t
+  compared-run (bySlot k) t = clash (sym t)

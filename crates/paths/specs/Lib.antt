@@ -1,3 +1,3 @@
 pub mod View
-pub mod Bytes
 pub mod Entries
+pub mod Searching

@@ -4,12 +4,15 @@ use mathlib.Core.Path.{_≡_, refl, sym, ap, _∙_}
 use mathlib.Core.Bool.{Bool, true, false, _&&_}
 use mathlib.Core.List.{List, [], _∷_}
 use mathlib.Core.Option.{Option, none, some}
-use lib.Dec.{leb}
-use Rattle.rules.specs.Lists.{isSome, only, first}
+use lib.ListN.{drop}
+use lib.Dec.{eqb, leb}
+use Rattle.rules.specs.Lists.{pick, isSome, only, first}
 use Rattle.rules.specs.Lists.Laws.{first-chosen, first-unchosen}
+use Rattle.rules.specs.SuperBlock.{Geometry}
 use Rattle.rules.specs.Names.{isBelow}
-use Rattle.rules.specs.Index.{Entry}
-use Rattle.rules.specs.Paths.{isLive, liveAt, deletedAt, isDirectoryAt}
+use Rattle.rules.specs.Index.{Entry, liveType, deletedType, typeDirectory, nameField, slotAt}
+use Rattle.rules.specs.Paths.{isLive, isDeleted, liveAt, deletedAt, isDirectoryAt}
+use Rattle.rules.specs.Comparing.{looked, searchLooked}
 use Rattle.slots.specs.declared.Head.{Head}
 use Rattle.slots.specs.View.{headView, HeadIn}
 use Rattle.paths.specs.declared.Search.{Search}
@@ -25,12 +28,40 @@ use Rattle.paths.specs.declared.Sought.the-variants.{Path as byPath, Del
 unfoldable pub liveBelow : List ℕ → Entry → Bool
 liveBelow p e = isLive e && isBelow p (e .path)
 
+-- the kinds of entries that may pass
+unfoldable pub soughtKind : Sought → ℕ → Bool
+soughtKind byPath t = liveType t
+soughtKind byDeleted t = deletedType t
+soughtKind byDirectory t = eqb t typeDirectory
+soughtKind byBelow t = liveType t
+soughtKind (bySlot k) t = liveType t
+
 unfoldable pub passes : Sought → List ℕ → Entry → Bool
 passes byPath p e = liveAt p e
 passes byDeleted p e = deletedAt p e
 passes byDirectory p e = isDirectoryAt p e
 passes byBelow p e = liveBelow p e
 passes (bySlot k) p e = isLive e && leb (k .0) (e .slot)
+
+-- whose names are compared with the path
+unfoldable pub compares : Sought → Entry → Bool
+compares byPath e = isLive e
+compares byDeleted e = isDeleted e
+compares byDirectory e = eqb (e .kind) typeDirectory
+compares byBelow e = isLive e
+compares (bySlot k) e = false
+
+-- the name of a head's run, by all its bytes, and how many of them are looked at
+abbrev pub nameOf : List ℕ → Head → List ℕ
+nameOf s h = nameField (drop (h .at .0) s)
+
+unfoldable pub headLooked : List ℕ → Head → Sought → List ℕ → ℕ
+headLooked s h what p = pick (compares what (headView s h)) (looked (nameOf s h) p) 0
+
+-- what a search from a cursor looks at is the rules' sum, wherever the index stands that the cursor walks
+abbrev pub Counted : List ℕ → Cursor → Sought → List ℕ → ℕ → Type 0
+Counted s c what p n =
+    (g : Geometry) → c .at .0 ≡ slotAt s g (c .slot .0) → n ≡ searchLooked s g (compares what) (passes what p) p (entriesFrom s c)
 
 -- ---- what was found
 unfoldable pub searchView : List ℕ → Search → Option Entry

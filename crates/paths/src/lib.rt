@@ -1,20 +1,22 @@
-// Paths of entries, compared with a path and looked up, by walks from entry to entry.
+// Paths of entries, compared with a path and looked up, by walks from entry to entry. What is looked at of the names is counted.
 
+use comparing::Compared;
+use comparing::compare;
 use index::Cursor;
 use index::Next;
 use index::next_entry;
 use slots::Head;
 use units::Slot;
 ghost use mathlib.Core.Path.{_≡_};
-ghost use mathlib.Core.Bool.{true, _&&_};
-ghost use lib.Dec.{leb};
+ghost use mathlib.Core.Bool.{true};
 ghost use Rattle.rules.specs.Lists.{eqList, any, first};
 ghost use Rattle.rules.specs.Names.{isBelow};
-ghost use Rattle.rules.specs.Index.{runType, liveType};
-ghost use Rattle.rules.specs.Paths.{liveAt, deletedAt, isDirectoryAt, lookup, nextLive, directoryLive, anyBelow};
+ghost use Rattle.rules.specs.Index.{runType};
+ghost use Rattle.rules.specs.Paths.{deletedAt, lookup, nextLive, directoryLive, anyBelow};
+ghost use Rattle.rules.specs.Comparing.{looked};
 ghost use Rattle.slots.specs.View.{headView, HeadIn};
 ghost use Rattle.index.specs.Steps.{Walks, entriesFrom};
-ghost use Rattle.paths.specs.View.{Hits, Searched, isFound, liveBelow, passes};
+ghost use Rattle.paths.specs.View.{Hits, Searched, isFound, passes, soughtKind, nameOf, headLooked, Counted};
 
 pub enum Search {
     Nothing,
@@ -27,99 +29,23 @@ pub enum Hit {
     Entry(Head, Cursor),
 }
 
-pub fn same_bytes(a: &[u8], b: &[u8]) -> bool
-    ensures { λ r. ⌜ r ≡ eqList (now (a .entry)) (now (b .entry)) ⌝ }
-{
-    if a.len() != b.len() {
-        return false;
-    }
-    let mut i: usize = 0;
-    while i < a.len() {
-        if a[i] != b[i] {
-            return false;
-        }
-        i += 1;
-    }
-    true
-}
-
-// Whether the path begins with `above` and a slash.
-pub fn is_below(above: &[u8], path: &[u8]) -> bool
-    ensures { λ r. ⌜ r ≡ isBelow (now (above .entry)) (now (path .entry)) ⌝ }
-{
-    let n = above.len();
-    if path.len() <= n {
-        return false;
-    }
-    if path[n] != b'/' {
-        return false;
-    }
-    same_bytes(above, &path[..n])
-}
+// ---- one entry
 
 // Whether the run's entry has this path.
-fn has_path(img: &[u8], h: Head, path: &[u8]) -> bool
+fn has_path(img: &[u8], h: Head, path: &[u8]) -> Compared
     requires { ⌜ HeadIn (now img) h × (runType (h .kind) ≡ true) ⌝ }
-    ensures { λ r. ⌜ r ≡ eqList (headView (now (img .entry)) h .path) (now (path .entry)) ⌝ }
+    ensures { λ r. ⌜ (r .same ≡ eqList (headView (now (img .entry)) h .path) (now (path .entry))) × (r .looked ≡ looked (nameOf (now (img .entry)) h) (now (path .entry))) ⌝ }
 {
-    same_bytes(slots::path_of(img, h), path)
+    compare(slots::name_field(img, h.at), path, 0)
 }
 
-// Whether the entry is live and has this path.
-pub fn path_is(img: &[u8], h: Head, path: &[u8]) -> bool
-    requires { ⌜ HeadIn (now img) h ⌝ }
-    ensures { λ r. ⌜ r ≡ liveAt (now (path .entry)) (headView (now (img .entry)) h) ⌝ }
+// Whether the run's entry lies below this path.
+fn lies_below(img: &[u8], h: Head, path: &[u8]) -> Compared
+    requires { ⌜ HeadIn (now img) h × (runType (h .kind) ≡ true) ⌝ }
+    ensures { λ r. ⌜ (r .same ≡ isBelow (now (path .entry)) (headView (now (img .entry)) h .path)) × (r .looked ≡ looked (nameOf (now (img .entry)) h) (now (path .entry))) ⌝ }
 {
-    if !slots::is_live(h.kind) {
-        return false;
-    }
-    has_path(img, h, path)
+    compare(slots::name_field(img, h.at), path, b'/')
 }
-
-// Whether the entry is deleted and has this path.
-fn was_path(img: &[u8], h: Head, path: &[u8]) -> bool
-    requires { ⌜ HeadIn (now img) h ⌝ }
-    ensures { λ r. ⌜ r ≡ deletedAt (now (path .entry)) (headView (now (img .entry)) h) ⌝ }
-{
-    if !slots::is_deleted(h.kind) {
-        return false;
-    }
-    has_path(img, h, path)
-}
-
-// Whether the entry is the live directory of this path.
-pub fn directory_is(img: &[u8], h: Head, path: &[u8]) -> bool
-    requires { ⌜ HeadIn (now img) h ⌝ }
-    ensures { λ r. ⌜ r ≡ isDirectoryAt (now (path .entry)) (headView (now (img .entry)) h) ⌝ }
-{
-    if h.kind != slots::DIRECTORY {
-        return false;
-    }
-    has_path(img, h, path)
-}
-
-// Whether the entry is live and lies below this path.
-fn lies_below(img: &[u8], h: Head, path: &[u8]) -> bool
-    requires { ⌜ HeadIn (now img) h ⌝ }
-    ensures { λ r. ⌜ r ≡ liveBelow (now (path .entry)) (headView (now (img .entry)) h) ⌝ }
-{
-    if !slots::is_live(h.kind) {
-        return false;
-    }
-    is_below(path, slots::path_of(img, h))
-}
-
-// Whether the entry is live and its first slot is not below this one.
-fn starts_from(h: Head, slot: Slot) -> bool
-    ensures { λ r. ⌜ r ≡ (liveType (h .kind) && leb (slot .0) (h .slot .0)) ⌝ }
-{
-    if !slots::is_live(h.kind) {
-        return false;
-    }
-    slot.is_at_or_before(h.slot)
-}
-
-// ---- searches
 
 // What an entry is looked for by; a path stands beside it.
 enum Sought {
@@ -130,31 +56,72 @@ enum Sought {
     From(Slot),
 }
 
-fn passes(img: &[u8], h: Head, what: Sought, path: &[u8]) -> bool
-    requires { ⌜ HeadIn (now img) h ⌝ }
-    ensures { λ r. ⌜ r ≡ passes what (now (path .entry)) (headView (now (img .entry)) h) ⌝ }
+// Whether an entry of this kind may pass.
+fn is_sought(what: Sought, kind: u8) -> bool
+    ensures { λ r. ⌜ r ≡ soughtKind what kind ⌝ }
 {
     match what {
-        Sought::Path => path_is(img, h, path),
-        Sought::Deleted => was_path(img, h, path),
-        Sought::Directory => directory_is(img, h, path),
-        Sought::Below => lies_below(img, h, path),
-        Sought::From(slot) => starts_from(h, slot),
+        Sought::Path => slots::is_live(kind),
+        Sought::Deleted => slots::is_deleted(kind),
+        Sought::Directory => kind == slots::DIRECTORY,
+        Sought::Below => slots::is_live(kind),
+        Sought::From(_) => slots::is_live(kind),
     }
 }
 
+// Whether the entry passes, and how many bytes of its name were looked at.
+fn passes(img: &[u8], h: Head, what: Sought, path: &[u8]) -> Compared
+    requires { ⌜ HeadIn (now img) h ⌝ }
+    ensures { λ r. ⌜ (r .same ≡ passes what (now (path .entry)) (headView (now (img .entry)) h)) × (r .looked ≡ headLooked (now (img .entry)) h what (now (path .entry))) ⌝ }
+{
+    if !is_sought(what, h.kind) {
+        return Compared {
+            same: false,
+            looked: 0,
+        };
+    }
+    match what {
+        Sought::Path => has_path(img, h, path),
+        Sought::Deleted => has_path(img, h, path),
+        Sought::Directory => has_path(img, h, path),
+        Sought::Below => lies_below(img, h, path),
+        Sought::From(slot) => Compared {
+            same: slot.is_at_or_before(h.slot),
+            looked: 0,
+        },
+    }
+}
+
+// ---- searches
+
+// What a search meets, and how many bytes of the names on its way it looked at.
+struct Met {
+    hit: Hit,
+    looked: usize,
+}
+
 // The first entry that passes, and where the walk goes on behind it.
-fn next_hit(img: &[u8], from: Cursor, what: Sought, path: &[u8]) -> Hit
+fn next_hit(img: &[u8], from: Cursor, what: Sought, path: &[u8]) -> Met
     requires { ⌜ Walks (now img) from ⌝ }
-    ensures { λ r. ⌜ Hits (now (img .entry)) (passes what (now (path .entry))) (entriesFrom (now (img .entry)) from) r ⌝ }
+    ensures { λ r. ⌜ Hits (now (img .entry)) (passes what (now (path .entry))) (entriesFrom (now (img .entry)) from) (r .hit) ⌝ }
+    ensures counted { λ r. ⌜ Counted (now (img .entry)) from what (now (path .entry)) (r .looked) ⌝ }
 {
     let mut at = from;
+    let mut looked: usize = 0;
     loop {
         match next_entry(img, at) {
-            Next::End => return Hit::Nothing,
+            Next::End => return Met {
+                hit: Hit::Nothing,
+                looked,
+            },
             Next::Found(h, rest) => {
-                if passes(img, h, what, path) {
-                    return Hit::Entry(h, rest);
+                let tried = passes(img, h, what, path);
+                looked += tried.looked;
+                if tried.same {
+                    return Met {
+                        hit: Hit::Entry(h, rest),
+                        looked,
+                    };
                 }
                 at = rest;
             }
@@ -167,7 +134,8 @@ fn seek(img: &[u8], from: Cursor, what: Sought, path: &[u8]) -> Search
     requires { ⌜ Walks (now img) from ⌝ }
     ensures { λ r. ⌜ Searched (now (img .entry)) (first (passes what (now (path .entry))) (entriesFrom (now (img .entry)) from)) r ⌝ }
 {
-    match next_hit(img, from, what, path) {
+    let hit = next_hit(img, from, what, path).hit;
+    match hit {
         Hit::Nothing => Search::Nothing,
         Hit::Entry(h, _) => Search::Entry(h),
     }
@@ -195,7 +163,7 @@ pub fn first_deleted(img: &[u8], from: Cursor, path: &[u8]) -> Hit
     requires { ⌜ Walks (now img) from ⌝ }
     ensures { λ r. ⌜ Hits (now (img .entry)) (deletedAt (now (path .entry))) (entriesFrom (now (img .entry)) from) r ⌝ }
 {
-    next_hit(img, from, Sought::Deleted, path)
+    next_hit(img, from, Sought::Deleted, path).hit
 }
 
 // Whether a deleted entry has this path.

@@ -8,6 +8,7 @@ pub mod Names
 pub mod Index
 pub mod Regions
 pub mod Paths
+pub mod Comparing
 pub mod Refusals
 pub mod Outcome
 pub mod Reading

@@ -4,7 +4,7 @@ use mathlib.Core.Path.{_≡_, refl, sym, ap, _∙_}
 use mathlib.Core.Bool.{Bool, true, false}
 use mathlib.Core.List.{List, []}
 use native.Mathlib.Omega.{arith}
-use lib.ListN.{length, getD, take, drop}
+use lib.ListN.{length, getD, take, drop, length-take, length-drop}
 use lib.IntN.{pos}
 use Rattle.rules.specs.Lists.{pick}
 use Rattle.rules.specs.Lists.Laws.{clash, pick-true, pick-false}
@@ -143,6 +143,14 @@ module _ (s : List ℕ) (h : Head) (head : HeadIn s h) (run : runType (h .kind) 
   pub path-is : headView s h .path ≡ upToZero (nameField (drop (h .at .0) s))
   unfolding headView pathAt
   path-is = pick-true _ _ run
+
+  -- a run has up to 256 slots
+  pub name-short : length (nameField (drop (h .at .0) s)) ≤ 16_384
+  unfolding nameField runSlots
+  name-short =
+      let a : List ℕ = drop (h .at .0) s in
+      let n : ℕ = 64 * (1 + byteAt a 1) in
+      omega (arith, length-drop (nameAt (byteAt a 0)) (take n a), length-take n a, byte-drop s (h .at .0) 1, head .count run, head .few)
 
 -- ---- how many slots an entry has
 pub entry-slots : (k : ℕ) (a : List ℕ) → entryAt k a .slots ≡ runSlots a

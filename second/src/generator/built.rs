@@ -4,16 +4,17 @@
 
 use super::{least_reserved, odd_path, path_of_length, text, volume_name, Known, Writer};
 use crate::bytes::put;
-use crate::index::{DELETED_DIRECTORY, DELETED_FILE, DIRECTORY, FILE, IDENTIFIER, MARKER, UNUSABLE, UNUSED};
+use crate::index::{self, DELETED_DIRECTORY, DELETED_FILE, DIRECTORY, DIRECTORY_NAME_AT, FILE, IDENTIFIER, MARKER};
+use crate::index::{UNUSABLE, UNUSED};
 use crate::superblock::{self, Geometry, CHECKSUM, MOST_INDEX, VERSION};
 use crate::xorshift::Xorshift;
 
 /// An image in the making.
-struct Builder {
-    image: Vec<u8>,
-    geometry: Geometry,
+pub struct Builder {
+    pub image: Vec<u8>,
+    pub geometry: Geometry,
     /// The next slot and block to give out.
-    slot: u64,
+    pub slot: u64,
     block: u64,
     serial: u64,
     /// The path given out last.
@@ -88,7 +89,8 @@ impl Builder {
         Builder::with(Geometry { image, block, total, reserved, data, index }, SOME_NEWER, rng)
     }
 
-    fn with(geometry: Geometry, newer: u64, rng: &mut Xorshift) -> Self {
+    /// An empty index of this geometry, of a newer version in about `newer` cases of a hundred.
+    pub fn with(geometry: Geometry, newer: u64, rng: &mut Xorshift) -> Self {
         let mut image = vec![0; geometry.image as usize];
         superblock::write(&mut image, &geometry, rng.step() as i64 >> 8);
         if rng.chance(newer) {
@@ -135,7 +137,7 @@ impl Builder {
     }
 
     /// An unused slot of any such type, with rubbish behind it.
-    fn unused(&mut self, rng: &mut Xorshift) {
+    pub fn unused(&mut self, rng: &mut Xorshift) {
         let kind = rng.below(0x20) as u8;
         let used = matches!(kind, IDENTIFIER | MARKER | DIRECTORY | FILE | UNUSABLE | DELETED_DIRECTORY | DELETED_FILE);
         let mut slot = [rng.byte(); 64];
@@ -185,19 +187,12 @@ impl Builder {
         self.choose_path(rng, deleted);
         let path = self.path.clone();
         let is_file = matches!(kind, FILE | DELETED_FILE);
-        let first = if is_file { 30 } else { 54 };
-        let needed = 1 + (path.len() + 1).saturating_sub(first).div_ceil(64) as u64;
+        let needed = slots_for(kind, path.len() + 1);
         let slots = needed + if rng.chance(if deleted { 25 } else { 15 }) { rng.below(3) } else { 0 };
         if self.slot + slots > self.geometry.slots() - 1 {
             return self.unused(rng);
         }
-        let mut numbers = (0, 0, 0);
-        if is_file && rng.chance(80) {
-            let (start, end) = self.region(rng);
-            let room = (end - start) * self.geometry.block;
-            let part = rng.below(room + 1);
-            numbers = (start, end, rng.pick(&[room, room, room.saturating_sub(1), 0, part]));
-        }
+        let numbers = if is_file && rng.chance(80) { self.extent(rng) } else { (0, 0, 0) };
         self.entry(kind, slots, &path, numbers);
         match kind {
             DIRECTORY if path.len() < 120 => self.directories.push(path),
@@ -206,9 +201,22 @@ impl Builder {
         }
     }
 
+    /// Start, end and length of a file.
+    pub fn extent(&mut self, rng: &mut Xorshift) -> (u64, u64, u64) {
+        let (start, end) = self.region(rng);
+        let room = (end - start) * self.geometry.block;
+        let part = rng.below(room + 1);
+        (start, end, rng.pick(&[room, room, room.saturating_sub(1), 0, part]))
+    }
+
     /// Writes an entry's run. Without a path it gets a short one of its own.
     fn entry(&mut self, kind: u8, slots: u64, path: &[u8], numbers: (u64, u64, u64)) {
         let name = if path.is_empty() { format!("n{}", self.slot).into_bytes() } else { path.to_vec() };
+        self.run(kind, slots, &[name.as_slice(), b"\0"].concat(), numbers);
+    }
+
+    /// Writes a run with these bytes, which fit it, from where its name starts.
+    pub fn run(&mut self, kind: u8, slots: u64, field: &[u8], numbers: (u64, u64, u64)) {
         let mut run = vec![self.rubbish; slots as usize * 64];
         put(&mut run, 0, &[kind]);
         if matches!(kind, FILE | DELETED_FILE | UNUSABLE) {
@@ -219,8 +227,7 @@ impl Builder {
         if kind != UNUSABLE {
             put(&mut run, 1, &[(slots - 1) as u8]);
             put(&mut run, 2, &(self.slot as i64 - 9).to_le_bytes());
-            let at = if matches!(kind, FILE | DELETED_FILE) { 34 } else { 10 };
-            put(&mut run, at, &[name.as_slice(), b"\0"].concat());
+            put(&mut run, name_at(kind), field);
         }
         put(&mut self.image, self.geometry.slot_offset(self.slot), &run);
         self.slot += slots;
@@ -243,6 +250,20 @@ impl Builder {
             _ => self.image.copy_within(from..from + 64, at),
         }
     }
+}
+
+fn name_at(kind: u8) -> usize {
+    index::name_at(kind).unwrap_or(DIRECTORY_NAME_AT)
+}
+
+/// The bytes that the name and what stands behind it have in a run.
+pub fn capacity(kind: u8, slots: u64) -> usize {
+    64 * slots as usize - name_at(kind)
+}
+
+/// The fewest slots of a run that has at least so many.
+pub fn slots_for(kind: u8, bytes: usize) -> u64 {
+    (bytes + name_at(kind)).div_ceil(64).max(1) as u64
 }
 
 /// Looks at everything, then writes into the holes.

@@ -8,6 +8,7 @@ mod edges;
 mod history;
 mod names;
 mod restore;
+mod tails;
 mod text;
 
 use crate::index::Entry;
@@ -19,7 +20,7 @@ use crate::xorshift::Xorshift;
 type Scene = fn(&mut Writer);
 
 /// The families of scenes, with the weight each has in a mixed script.
-const FAMILIES: [(&str, u64, Scene); 7] = [
+const FAMILIES: [(&str, u64, Scene); 8] = [
     ("history", 40, history::scene),
     ("damage", 20, damage::scene),
     ("built", 20, built::scene),
@@ -27,6 +28,7 @@ const FAMILIES: [(&str, u64, Scene); 7] = [
     ("args", 12, args::scene),
     ("names", 12, names::scene),
     ("restore", 20, restore::scene),
+    ("tails", 12, tails::scene),
 ];
 
 /// A script of about `count` calls, of one family or mixed; nothing when there is no such family.

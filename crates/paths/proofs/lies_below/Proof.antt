@@ -1,31 +1,25 @@
-use borrow.Author.Tests.{not-true, not-false}
-use Rattle.rules.specs.Paths.Laws.{live-run}
-use Rattle.rules.specs.Names.{isBelow}
 use denote.Ref.{now}
-use mathlib.Core.Path.{sym, ap, _∙_}
-use Rattle.paths.specs.Entries.{below-no, below-yes}
-use borrow.Author.Needs.{needs}
+use native.Mathlib.Omega.{arith}
+use lib.ListN.{length}
+use mathlib.Core.Path.{ap}
+use Rattle.slots.specs.View.{field-fits, name-short}
+use Rattle.paths.specs.Entries.{name-below}
 use Rattle.paths.proofs.lies_below.Statement.{statement}
 use Rattle.paths.proofs.lies_below.Tie as tie
 
-is-live-requires : tie.Need-is-live-requires
-is-live-requires c κs = search needs
+name-field-requires : tie.Need-name-field-requires
+name-field-requires c κs = let b = c .before .before in field-fits (now (b .args .img)) (b .args .h) (b .pre .0) (b .pre .1)
+
+compare-requires : tie.Need-compare-requires
+compare-requires c κs =
+    let b = c .before .before .before in
+    omega (arith, ap length (c .name-field .ensures), name-short (now (b .args .img)) (b .args .h) (b .pre .0) (b .pre .1))
 
 returns : tie.Need-returns
-returns c = sym (below-no _ _ _ (sym (c .before .is-live .ensures) ∙ not-true _ (c .if1 .taken)))
-
-path-of-requires : tie.Need-path-of-requires
-path-of-requires c κs = (c .before .before .before .before .pre, live-run _ (sym (c .before .is-live .ensures) ∙ not-false _ (c .if1 .left)))
-
-is-below-requires : tie.Need-is-below-requires
-is-below-requires c κs = search needs
-
-returns-2 : tie.Need-returns-2
-returns-2 c = let e = c .before .before in
-    c .is-below .ensures
-    ∙ ap (isBelow (now (e .before .before .before .before .args .path))) (c .before .path-of .ensures)
-    ∙ sym (below-yes _ _ _ (sym (e .before .is-live .ensures) ∙ not-false _ (e .if1 .left)))
+returns c =
+    let e = c .compare .ensures in
+    let p = c .before .before .before .before .pre in
+    name-below _ _ _ (p .0) (p .1) _ _ _ (c .before .name-field .ensures) (e .1) (e .0)
 
 pub lies-below-spec : {M : Type 1} → statement M
-lies-below-spec =
-    tie.close (tie.spec is-live-requires returns path-of-requires is-below-requires returns-2)
+lies-below-spec = tie.close (tie.spec name-field-requires compare-requires returns)

@@ -1,0 +1,94 @@
+-- A search, taken an entry further: what it finds, and what it looks at on the way.
+use Prim.Native.Nat.{ℕ, _+_, _-_, _*_, _^_, _≤_, _<_}
+use mathlib.Core.Path.{_≡_, refl, sym, ap, _∙_}
+use mathlib.Core.Bool.{Bool, true, false}
+use mathlib.Core.List.{List, [], _∷_}
+use native.Mathlib.Omega.{arith}
+use native.Mathlib.Nat.{zero-add, add-zero, add-assoc}
+use lib.ListN.{length, drop}
+use Rattle.rules.specs.Lists.{pick, only}
+use Rattle.rules.specs.Lists.Laws.{pick-true, pick-false}
+use Rattle.rules.specs.SuperBlock.{Geometry}
+use Rattle.rules.specs.Index.{Entry, nameField, slotAt}
+use Rattle.rules.specs.Comparing.{looked, nameIn, entryLooked, searchLooked}
+use Rattle.rules.specs.Comparing.Laws.{looked-most, looked-end, looked-stop, looked-next}
+use Rattle.slots.specs.declared.Head.{Head}
+use Rattle.slots.specs.View.{headView, HeadIn, name-short}
+use Rattle.index.specs.declared.Cursor.{Cursor}
+use Rattle.index.specs.Steps.{Walks, entriesFrom, Step}
+use Rattle.paths.specs.declared.Sought.{Sought}
+use Rattle.paths.specs.declared.Sought.the-variants.{Path as byPath, Deleted as byDeleted, Directory as byDirectory, Below as byBelow, From as bySlot}
+use Rattle.paths.specs.declared.Hit.the-variants.{Nothing as noHit, Entry as hitAt}
+use Rattle.paths.specs.View.{passes, compares, nameOf, headLooked, Counted, Hits, hits-none, hits-some}
+use Rattle.paths.specs.Entries.{only-end, only-stop, only-next, compared-run}
+
+-- ---- one head
+-- no name has more than 16,384 bytes, and one of them may be looked at twice
+pub head-few : (s : List ℕ) (h : Head) (what : Sought) (p : List ℕ) → HeadIn s h → headLooked s h what p ≤ 16_385
+unfolding headLooked
+head-few s h what p head = by (compares what (headView s h)) refl
+  where
+    by : (t : Bool) → compares what (headView s h) ≡ t → pick t (looked (nameOf s h) p) 0 ≤ 16_385
+    by true e = omega (arith, pick-true (looked (nameOf s h) p) 0 refl, looked-most (nameOf s h) p, name-short s h head (compared-run s p h what e))
+    by false e = omega (arith, pick-false (looked (nameOf s h) p) 0 refl)
+
+-- a head that stands at its slot's place is looked at as the rules' entry is
+head-entry : (s : List ℕ) (g : Geometry) (h : Head) (what : Sought) (p : List ℕ) → h .at .0 ≡ slotAt s g (h .slot .0)
+    → entryLooked s g (compares what) p (headView s h) ≡ headLooked s h what p
+unfolding entryLooked headLooked nameIn headView
+head-entry s g h what p e = ap (λ (at : ℕ). pick (compares what (headView s h)) (looked (nameField (drop at s)) p) 0) (sym e)
+
+-- ---- a search from c that has come to d and looked at n bytes
+module _ (s : List ℕ) (what : Sought) (p : List ℕ) (c : Cursor) where
+  abbrev lookedFrom : Geometry → Cursor → ℕ
+  lookedFrom g d = searchLooked s g (compares what) (passes what p) p (entriesFrom s d)
+
+  pub record Going (d : Cursor) (n : ℕ) : Type 0 where
+    pub walks : Walks s d
+    pub chosen : only (passes what p) (entriesFrom s d) ≡ only (passes what p) (entriesFrom s c)
+    pub place : d .at .0 + 64 * c .slot .0 ≡ c .at .0 + 64 * d .slot .0  -- as far apart in bytes as in slots
+    pub count : (g : Geometry) → c .at .0 ≡ slotAt s g (c .slot .0) → n + lookedFrom g d ≡ lookedFrom g c
+    pub few : n + 16_385 * d .left ≤ 16_385 * 262_144
+
+  pub going-first : Walks s c → Going c 0
+  going-first w = record {
+    walks = w;
+    chosen = refl;
+    place = refl;
+    count = λ g e. zero-add _;
+    few = omega (arith, w .inside .fits, w .inside .short);
+  }
+
+  module _ (d : Cursor) (n : ℕ) (going : Going d n) where
+    pub going-end : entriesFrom s d ≡ [] → Hits s (passes what p) (entriesFrom s c) noHit × Counted s c what p n
+    going-end z = (
+      hits-none _ _ _ (sym (going .chosen) ∙ only-end _ _ z),
+      λ g e. sym (add-zero n) ∙ ap (λ (k : ℕ). n + k) (sym (looked-end s g _ _ p _ z)) ∙ going .count g e,
+    )
+
+    module _ (h : Head) (d′ : Cursor) (step : Step s d h d′) (m : ℕ) (tried : m ≡ headLooked s h what p) where
+      here : (g : Geometry) → c .at .0 ≡ slotAt s g (c .slot .0) → entryLooked s g (compares what) p (headView s h) ≡ m
+      unfolding slotAt
+      here g e = head-entry s g h what p (omega (arith, e, going .place, step .place)) ∙ sym tried
+
+      pub going-room : n + m < 2 ^ 64
+      going-room = omega (arith, going .few, tried, head-few s h what p (step .head))
+
+      pub going-found : passes what p (headView s h) ≡ true → Hits s (passes what p) (entriesFrom s c) (hitAt h d′) × Counted s c what p (n + m)
+      going-found t = (
+        hits-some _ _ _ h d′ (record {
+          chosen = sym (going .chosen) ∙ only-stop _ _ _ _ (step .entries) t;
+          head = step .head;
+          walks = step .walks;
+        }),
+        λ g e. ap (λ (k : ℕ). n + k) (sym (here g e)) ∙ ap (λ (k : ℕ). n + k) (sym (looked-stop s g _ _ p _ _ _ (step .entries) t)) ∙ going .count g e,
+      )
+
+      pub going-next : passes what p (headView s h) ≡ false → Going d′ (n + m)
+      going-next t = record {
+        walks = step .walks;
+        chosen = only-next _ _ _ _ (step .entries) t ∙ going .chosen;
+        place = omega (arith, going .place, step .place, step .after, step .number);
+        count = λ g e. omega (arith, here g e, looked-next s g (compares what) (passes what p) p (entriesFrom s d) (headView s h) (entriesFrom s d′) (step .entries) t, going .count g e);
+        few = omega (arith, going .few, step .less, tried, head-few s h what p (step .head));
+      }
