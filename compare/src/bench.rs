@@ -1,4 +1,4 @@
-//! Open and find on a 16 MiB volume whose index is full of live entries, and open on one with the longest name there can be: the two
+//! Open and find on 16 MiB volumes whose index is full of live entries, and open on one with the longest name there can be: the
 //! programs, one after the other, in one run.
 
 use crate::library::Library;
@@ -9,6 +9,9 @@ use std::time::{Duration, Instant};
 const BYTES: usize = 16 << 20;
 const ENTRIES: usize = 4094;
 const ROUNDS: u32 = 5;
+/// The longest name that one slot of a file holds has 29 bytes.
+const ALIKE: &[u8] = b"session-of-terminal-7-desk-";
+const DIGITS: &[u8; 64] = b"0123456789ABCDEFGHIJKLMNOPQRSTUVWXYZabcdefghijklmnopqrstuvwxyz+-";
 /// A directory of the longest name: it starts at 10 in the first slot and fills 255 more, its zero apart.
 const RUN: usize = 256 * 64;
 const NAME_AT: usize = 10;
@@ -17,20 +20,34 @@ const NAME_ROUNDS: u32 = 200;
 const NAMES: [(&str, &str); 4] =
     [("ASCII", "session-01234."), ("ASCII, mixed", "aZ0-bY9_c+X8 "), ("French", "prêté à l'été "), ("Japanese", "日本語")];
 
+/// The full volumes, by how their names differ; one slot holds each.
+const FULL: [(&str, fn(usize) -> Vec<u8>); 3] =
+    [("numbered", numbered), ("names that differ in their last two bytes", last), ("names that differ in their first two bytes", first)];
+
+/// What is timed: another commit's library, if one was linked, the library and the second program.
+const PROGRAMS: &[(&str, &dyn Store)] = &[
+    #[cfg(before)]
+    ("library before", &crate::before::Library),
+    ("library", &Library),
+    ("second", &Own),
+];
+
 pub fn run() -> Result<String, String> {
-    let image = full_volume()?;
-    let path = name(ENTRIES - 1);
     let mut text = format!("{BYTES} bytes, {ENTRIES} live entries, best of {ROUNDS}");
-    for (program, store) in [("library", &Library as &dyn Store), ("second", &Own)] {
-        let open = best(ROUNDS, || black_box(store.open(black_box(&image), &mut [0; 64])).refusal == 0)?;
-        let find = best(ROUNDS, || black_box(store.find(black_box(&image), &path)).refusal == 0)?;
-        text += &format!("\n{program}: open {:.3} ms, find {:.3} ms", millis(open), millis(find));
+    for (names, name) in FULL {
+        let image = full_volume(name)?;
+        let path = name(ENTRIES - 1);
+        for (program, store) in PROGRAMS {
+            let open = best(ROUNDS, || black_box(store.open(black_box(&image), &mut [0; 64])).refusal == 0)?;
+            let find = best(ROUNDS, || black_box(store.find(black_box(&image), black_box(&path))).refusal == 0)?;
+            text += &format!("\n{program}, {names}: open {:.3} ms, find {:.3} ms", millis(open), millis(find));
+        }
     }
     text += &format!("\n{BYTES} bytes, one name of {LONGEST} bytes or a few less, best of {NAME_ROUNDS}");
     for (names, pattern) in NAMES {
         let image = named_volume(pattern)?;
-        for (program, store) in [("library", &Library as &dyn Store), ("second", &Own)] {
-            text += &format!("\n{program}, {names}: {}", judged(store, &image));
+        for (program, store) in PROGRAMS {
+            text += &format!("\n{program}, {names}: {}", judged(*store, &image));
         }
     }
     Ok(text)
@@ -65,7 +82,7 @@ fn named_volume(pattern: &str) -> Result<Vec<u8>, String> {
 }
 
 /// Files of a byte each, as many as the index area can hold. The second program writes them.
-fn full_volume() -> Result<Vec<u8>, String> {
+fn full_volume(name: fn(usize) -> Vec<u8>) -> Result<Vec<u8>, String> {
     let mut image = vec![0; BYTES];
     let written = |refusal: u8| if refusal == 0 { Ok(()) } else { Err(format!("refused {refusal}")) };
     written(second::format(&mut image, 512, 1, b"BENCH", 0).refusal)?;
@@ -75,8 +92,21 @@ fn full_volume() -> Result<Vec<u8>, String> {
     Ok(image)
 }
 
-fn name(place: usize) -> Vec<u8> {
+fn numbered(place: usize) -> Vec<u8> {
     format!("session-{place:05}").into_bytes()
+}
+
+fn last(place: usize) -> Vec<u8> {
+    [ALIKE, code(place).as_slice()].concat()
+}
+
+fn first(place: usize) -> Vec<u8> {
+    [code(place).as_slice(), ALIKE].concat()
+}
+
+/// Two letters, digits or marks for a number below 4,096.
+fn code(place: usize) -> [u8; 2] {
+    [DIGITS[place / 64 % 64], DIGITS[place % 64]]
 }
 
 fn best(rounds: u32, mut call: impl FnMut() -> bool) -> Result<Duration, String> {

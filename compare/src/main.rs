@@ -3,6 +3,11 @@
 //! volume, both programs in one run. `compare names`: the name rule by both programs and by Rust's own reading of UTF-8, on every
 //! short string.
 
+#[cfg(before)]
+#[allow(dead_code)]
+mod before {
+    include!(concat!(env!("OUT_DIR"), "/before.rs"));
+}
 mod bench;
 mod library;
 mod names;
@@ -13,7 +18,7 @@ use second::script::Session;
 use second::selftest::restore_table;
 use std::process::ExitCode;
 
-const USAGE: &str = "usage: compare SEED CALLS [history|damage|built|edges|args|names|restore]
+const USAGE: &str = "usage: compare SEED CALLS [history|damage|built|edges|args|names|restore|tails]
        compare bench
        compare names";
 

@@ -15,6 +15,7 @@ use Rattle.rules.specs.History.{passed, step, nothing, keptOf, marked, revived,
 use Rattle.rules.specs.Text.{digit, digits, decimal, widened}
 use Rattle.rules.specs.Dates.{floorDiv, floorMod, divides, leapYear, yearLength, monthLength, countOff, yearOff, monthOff, dateIn, dateOf, secondsOf, daysOf, secondOfDay, momentOf, yearText, twoDigits, momentText}
 use Rattle.rules.specs.Listing.{lineOf, linesOf, countLine, refusedLine, volumeText, listingOf}
+use Rattle.rules.specs.Comparing.{atLast, lastAlike, goesOn, walked, looked, nameIn, met, entryLooked, searchLooked, findLooked}
 
 -- All definitions of the rules by one name: a theorem that says `unfolding everything` computes through them.
 unfoldable pub everything : Unit {0}
@@ -43,4 +44,5 @@ unfolding
     floorDiv floorMod divides leapYear yearLength monthLength countOff yearOff monthOff dateIn dateOf secondsOf daysOf
     secondOfDay momentOf yearText twoDigits momentText
     lineOf linesOf countLine refusedLine volumeText listingOf
+    atLast lastAlike goesOn walked looked nameIn met entryLooked searchLooked findLooked
 everything = tt

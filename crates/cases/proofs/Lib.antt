@@ -2,3 +2,4 @@ pub mod Computing
 pub mod Table
 pub mod Runs
 pub mod Names
+pub mod Comparing

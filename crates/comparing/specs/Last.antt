@@ -1,7 +1,7 @@
 -- The test before the walk, read at the path's last place; a name that it passes over is not the path.
 use Prim.Native.Nat.{ℕ, zero, suc, _+_, _≤_, _<_}
 use mathlib.Core.Path.{_≡_, refl, sym, _∙_}
-use mathlib.Core.Bool.{Bool, true, false, _&&_}
+use mathlib.Core.Bool.{Bool, true, false}
 use mathlib.Core.List.{List, [], _∷_}
 use native.Mathlib.Omega.{arith}
 use lib.ListN.{length, getD, drop-of-length-le}
@@ -40,7 +40,8 @@ module _ (name path : List ℕ) where
   untested z = rw (no-last path name z, no-last path path z) (refl, refl)
 
   -- place i is the path's last, and the name has it
-  pub tested : (i : ℕ) → suc i ≡ length path → length path ≤ length name → (eqb (getD name i 0) (getD path i 0) ≡ lastAlike name path) × (1 ≡ length (atLast path name))
+  pub tested : (i : ℕ) → suc i ≡ length path → length path ≤ length name
+      → (eqb (getD name i 0) (getD path i 0) ≡ lastAlike name path) × (1 ≡ length (atLast path name))
   unfolding lastAlike eqList
   tested i e h = rw (at-last path name i e (omega arith), at-last path path i e (omega arith)) (sym (and-last _), refl)
 

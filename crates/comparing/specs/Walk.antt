@@ -1,6 +1,6 @@
 -- The walk through a name and a path, taken a place further.
 use Prim.Native.Nat.{ℕ, _+_, _≤_, _<_}
-use mathlib.Core.Path.{_≡_, refl, sym, ap, _∙_}
+use mathlib.Core.Path.{_≡_, refl, sym, _∙_}
 use mathlib.Core.Bool.{Bool, true, false, _&&_}
 use mathlib.Core.List.{List, [], _∷_}
 use native.Mathlib.Numerals.{add-one}
@@ -19,11 +19,22 @@ isThen end [] path = false
 isThen end (b ∷ bs) [] = eqb b end
 isThen end (b ∷ bs) (p ∷ ps) = goesOn b p && isThen end bs ps
 
+-- an answer that is said to be another
+pub thus : (t u v : Bool) (k m n : ℕ) → (t ≡ u) × (k ≡ m) → (u ≡ v) × (m ≡ n) → (t ≡ v) × (k ≡ n)
+thus t u v k m n e f = (e .0 ∙ f .0, e .1 ∙ f .1)
+
 module _ (end : ℕ) (name path : List ℕ) where
-  -- what is left from place i on answers as the whole, and is all but i bytes of what is looked at
+  -- the answer and the count from place i on
+  abbrev thenFrom : ℕ → Bool
+  thenFrom i = isThen end (drop i name) (drop i path)
+
+  abbrev walkedFrom : ℕ → ℕ
+  walkedFrom i = walked (drop i name) (drop i path)
+
+  -- what is left answers as the whole, and is all but i bytes of what is looked at
   pub record Walks (i : ℕ) : Type 0 where
-    pub answer : isThen end (drop i name) (drop i path) ≡ isThen end name path
-    pub count : i + walked (drop i name) (drop i path) ≡ walked name path
+    pub answer : thenFrom i ≡ isThen end name path
+    pub count : i + walkedFrom i ≡ walked name path
 
   pub walks-first : Walks 0
   walks-first = record { answer = refl; count = zero-add _ }
@@ -34,29 +45,29 @@ module _ (end : ℕ) (name path : List ℕ) where
       pub walks-stop : goesOn (getD name i 0) (getD path i 0) ≡ false → (false ≡ isThen end name path) × (i + 1 ≡ walked name path)
       unfolding isThen walked pick
       walks-stop t =
-          let a : isThen end (drop i name) (drop i path) ≡ false = rw (drop-cons name i 0 h, drop-cons path i 0 k) (and-left _ _ t) in
-          let w : walked (drop i name) (drop i path) ≡ 1 = rw (drop-cons name i 0 h, drop-cons path i 0 k, t) refl in
+          let a : thenFrom i ≡ false = rw (drop-cons name i 0 h, drop-cons path i 0 k) (and-left _ _ t) in
+          let w : walkedFrom i ≡ 1 = rw (drop-cons name i 0 h, drop-cons path i 0 k, t) refl in
           (sym a ∙ so-far .answer, omega (arith, so-far .count))
 
       pub walks-next : goesOn (getD name i 0) (getD path i 0) ≡ true → Walks (i + 1)
       unfolding isThen walked pick
       walks-next t =
-          let a : isThen end (drop (i + 1) name) (drop (i + 1) path) ≡ isThen end (drop i name) (drop i path) = rw (drop-cons name i 0 h, drop-cons path i 0 k, add-one, t) refl in
-          let w : walked (drop i name) (drop i path) ≡ 1 + walked (drop (i + 1) name) (drop (i + 1) path) = rw (drop-cons name i 0 h, drop-cons path i 0 k, add-one, t) refl in
+          let a : thenFrom (i + 1) ≡ thenFrom i = rw (drop-cons name i 0 h, drop-cons path i 0 k, add-one, t) refl in
+          let w : walkedFrom i ≡ 1 + walkedFrom (i + 1) = rw (drop-cons name i 0 h, drop-cons path i 0 k, add-one, t) refl in
           record { answer = a ∙ so-far .answer; count = omega (arith, so-far .count) }
 
     -- the path ends there, and the name goes on
     pub walks-behind : i < length name → length path ≤ i → (eqb (getD name i 0) end ≡ isThen end name path) × (i + 1 ≡ walked name path)
     unfolding isThen walked
     walks-behind h k =
-        let a : isThen end (drop i name) (drop i path) ≡ eqb (getD name i 0) end = rw (drop-cons name i 0 h, drop-of-length-le path {i = i} k) refl in
-        let w : walked (drop i name) (drop i path) ≡ 1 = rw (drop-cons name i 0 h, drop-of-length-le path {i = i} k) refl in
+        let a : thenFrom i ≡ eqb (getD name i 0) end = rw (drop-cons name i 0 h, drop-of-length-le path {i = i} k) refl in
+        let w : walkedFrom i ≡ 1 = rw (drop-cons name i 0 h, drop-of-length-le path {i = i} k) refl in
         (sym a ∙ so-far .answer, omega (arith, so-far .count))
 
     -- the name has no more bytes
     pub walks-out : length name ≤ i → (false ≡ isThen end name path) × (i ≡ walked name path)
     unfolding isThen walked
     walks-out h =
-        let a : isThen end (drop i name) (drop i path) ≡ false = rw (drop-of-length-le name {i = i} h) refl in
-        let w : walked (drop i name) (drop i path) ≡ 0 = rw (drop-of-length-le name {i = i} h) refl in
+        let a : thenFrom i ≡ false = rw (drop-of-length-le name {i = i} h) refl in
+        let w : walkedFrom i ≡ 0 = rw (drop-of-length-le name {i = i} h) refl in
         (sym a ∙ so-far .answer, omega (arith, so-far .count))

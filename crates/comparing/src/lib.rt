@@ -1,6 +1,7 @@
 // A name compared with a path: the byte at the path's last place, then both from the start. The bytes of the name that are looked at are counted.
 
 ghost use mathlib.Core.Path.{_≡_};
+ghost use mathlib.Core.Bool.{false};
 ghost use Prim.Native.Nat.{_≤_};
 ghost use lib.ListN.{length};
 ghost use Rattle.rules.specs.Comparing.{atLast, lastAlike, goesOn, walked, looked};
@@ -11,10 +12,21 @@ pub struct Compared {
     pub looked: usize,
 }
 
+// The two differ, which so many bytes of the name have shown.
+pub fn apart(looked: usize) -> Compared
+    ensures { λ r. ⌜ (r .same ≡ false) × (r .looked ≡ looked) ⌝ }
+{
+    Compared {
+        same: false,
+        looked,
+    }
+}
+
 // The test before the walk: the path's last byte, at its place in the name. An empty path has none.
 fn compare_last(name: &[u8], path: &[u8]) -> Compared
     requires { ⌜ length (now path) ≤ length (now name) ⌝ }
-    ensures { λ r. ⌜ (r .same ≡ lastAlike (now (name .entry)) (now (path .entry))) × (r .looked ≡ length (atLast (now (path .entry)) (now (name .entry)))) ⌝ }
+    ensures { λ r. ⌜ r .same ≡ lastAlike (now (name .entry)) (now (path .entry)) ⌝ }
+    ensures counted { λ r. ⌜ r .looked ≡ length (atLast (now (path .entry)) (now (name .entry))) ⌝ }
 {
     if path.len() < 1 {
         return Compared {
@@ -39,23 +51,18 @@ fn goes_on(b: u8, p: u8) -> bool
 // The walk through both, up to the first difference.
 fn walk(name: &[u8], path: &[u8], end: u8) -> Compared
     requires { ⌜ length (now path) ≤ length (now name) ⌝ }
-    ensures { λ r. ⌜ (r .same ≡ isThen end (now (name .entry)) (now (path .entry))) × (r .looked ≡ walked (now (name .entry)) (now (path .entry))) ⌝ }
+    ensures { λ r. ⌜ r .same ≡ isThen end (now (name .entry)) (now (path .entry)) ⌝ }
+    ensures counted { λ r. ⌜ r .looked ≡ walked (now (name .entry)) (now (path .entry)) ⌝ }
 {
     let mut i: usize = 0;
     while i < path.len() {
         if !goes_on(name[i], path[i]) {
-            return Compared {
-                same: false,
-                looked: i + 1,
-            };
+            return apart(i + 1);
         }
         i += 1;
     }
     if i == name.len() {
-        return Compared {
-            same: false,
-            looked: i,
-        };
+        return apart(i);
     }
     Compared {
         same: name[i] == end,
@@ -67,13 +74,11 @@ fn walk(name: &[u8], path: &[u8], end: u8) -> Compared
 // comes with all bytes that its run has for it, since its zero is not sought first.
 pub fn compare(name: &[u8], path: &[u8], end: u8) -> Compared
     requires { ⌜ length (now name) ≤ 16_777_216 ⌝ }
-    ensures { λ r. ⌜ (r .same ≡ isThen end (now (name .entry)) (now (path .entry))) × (r .looked ≡ looked (now (name .entry)) (now (path .entry))) ⌝ }
+    ensures { λ r. ⌜ r .same ≡ isThen end (now (name .entry)) (now (path .entry)) ⌝ }
+    ensures counted { λ r. ⌜ r .looked ≡ looked (now (name .entry)) (now (path .entry)) ⌝ }
 {
     if name.len() < path.len() {
-        return Compared {
-            same: false,
-            looked: 0,
-        };
+        return apart(0);
     }
     let test = compare_last(name, path);
     if !test.same {

@@ -35,16 +35,15 @@ module _ (p : Entry → Bool) (es : List Entry) where
     only-next t = sym (rw next (only-no p x xs t))
 
 -- ---- the name of a run, compared
-module _ (s p : List ℕ) (h : Head) (head : HeadIn s h) (run : runType (h .kind) ≡ true) (same : Bool) (n : ℕ) (f : List ℕ) (field : f ≡ nameOf s h) (count : n ≡ looked f p) where
-  pub name-is : same ≡ isThen 0 f p → (same ≡ eqList (headView s h .path) p) × (n ≡ looked (nameOf s h) p)
+module _ (s p : List ℕ) (h : Head) (head : HeadIn s h) (run : runType (h .kind) ≡ true) where
+  pub name-is : isThen 0 (nameOf s h) p ≡ eqList (headView s h .path) p
   unfolding nameGood
-  name-is e =
+  name-is =
       let z = and-true (hasZero (nameOf s h)) _ (head .named run) .0 in
-      (e ∙ ap (λ x. isThen 0 x p) field ∙ then-path (nameOf s h) p z ∙ ap (λ x. eqList x p) (sym (path-is s h head run)), count ∙ ap (λ x. looked x p) field)
+      then-path (nameOf s h) p z ∙ ap (λ x. eqList x p) (sym (path-is s h head run))
 
-  pub name-below : same ≡ isThen slash f p → (same ≡ isBelow p (headView s h .path)) × (n ≡ looked (nameOf s h) p)
-  name-below e =
-      (e ∙ ap (λ x. isThen slash x p) field ∙ then-below (nameOf s h) p ∙ ap (isBelow p) (sym (path-is s h head run)), count ∙ ap (λ x. looked x p) field)
+  pub name-below : isThen slash (nameOf s h) p ≡ isBelow p (headView s h .path)
+  name-below = then-below (nameOf s h) p ∙ ap (isBelow p) (sym (path-is s h head run))
 
 -- ---- an entry, tried by its kind first
 module _ (s p : List ℕ) (h : Head) where

@@ -2,10 +2,10 @@
 use Prim.Native.Nat.{ℕ, _+_, _-_, _*_, _^_, _≤_, _<_}
 use mathlib.Core.Path.{_≡_, refl, sym, ap, _∙_}
 use mathlib.Core.Bool.{Bool, true, false}
-use mathlib.Core.List.{List, [], _∷_}
+use mathlib.Core.List.{List, []}
 use native.Mathlib.Omega.{arith}
-use native.Mathlib.Nat.{zero-add, add-zero, add-assoc}
-use lib.ListN.{length, drop}
+use native.Mathlib.Nat.{zero-add, add-zero}
+use lib.ListN.{drop}
 use Rattle.rules.specs.Lists.{pick, only}
 use Rattle.rules.specs.Lists.Laws.{pick-true, pick-false}
 use Rattle.rules.specs.SuperBlock.{Geometry}
@@ -17,9 +17,9 @@ use Rattle.slots.specs.View.{headView, HeadIn, name-short}
 use Rattle.index.specs.declared.Cursor.{Cursor}
 use Rattle.index.specs.Steps.{Walks, entriesFrom, Step}
 use Rattle.paths.specs.declared.Sought.{Sought}
-use Rattle.paths.specs.declared.Sought.the-variants.{Path as byPath, Deleted as byDeleted, Directory as byDirectory, Below as byBelow, From as bySlot}
+use Rattle.paths.specs.declared.Hit.{Hit}
 use Rattle.paths.specs.declared.Hit.the-variants.{Nothing as noHit, Entry as hitAt}
-use Rattle.paths.specs.View.{passes, compares, nameOf, headLooked, Counted, Hits, hits-none, hits-some}
+use Rattle.paths.specs.View.{passes, compares, nameOf, headLooked, LookedFrom, Hits, hits-none, hits-some}
 use Rattle.paths.specs.Entries.{only-end, only-stop, only-next, compared-run}
 
 -- ---- one head
@@ -43,6 +43,10 @@ module _ (s : List ℕ) (what : Sought) (p : List ℕ) (c : Cursor) where
   abbrev lookedFrom : Geometry → Cursor → ℕ
   lookedFrom g d = searchLooked s g (compares what) (passes what p) p (entriesFrom s d)
 
+  -- what it comes to
+  abbrev Comes : Hit → ℕ → Type 0
+  Comes r n = Hits s (passes what p) (entriesFrom s c) r × LookedFrom s c (compares what) (passes what p) p n
+
   pub record Going (d : Cursor) (n : ℕ) : Type 0 where
     pub walks : Walks s d
     pub chosen : only (passes what p) (entriesFrom s d) ≡ only (passes what p) (entriesFrom s c)
@@ -60,7 +64,7 @@ module _ (s : List ℕ) (what : Sought) (p : List ℕ) (c : Cursor) where
   }
 
   module _ (d : Cursor) (n : ℕ) (going : Going d n) where
-    pub going-end : entriesFrom s d ≡ [] → Hits s (passes what p) (entriesFrom s c) noHit × Counted s c what p n
+    pub going-end : entriesFrom s d ≡ [] → Comes noHit n
     going-end z = (
       hits-none _ _ _ (sym (going .chosen) ∙ only-end _ _ z),
       λ g e. sym (add-zero n) ∙ ap (λ (k : ℕ). n + k) (sym (looked-end s g _ _ p _ z)) ∙ going .count g e,
@@ -74,14 +78,14 @@ module _ (s : List ℕ) (what : Sought) (p : List ℕ) (c : Cursor) where
       pub going-room : n + m < 2 ^ 64
       going-room = omega (arith, going .few, tried, head-few s h what p (step .head))
 
-      pub going-found : passes what p (headView s h) ≡ true → Hits s (passes what p) (entriesFrom s c) (hitAt h d′) × Counted s c what p (n + m)
+      pub going-found : passes what p (headView s h) ≡ true → Comes (hitAt h d′) (n + m)
       going-found t = (
         hits-some _ _ _ h d′ (record {
           chosen = sym (going .chosen) ∙ only-stop _ _ _ _ (step .entries) t;
           head = step .head;
           walks = step .walks;
         }),
-        λ g e. ap (λ (k : ℕ). n + k) (sym (here g e)) ∙ ap (λ (k : ℕ). n + k) (sym (looked-stop s g _ _ p _ _ _ (step .entries) t)) ∙ going .count g e,
+        λ g e. ap (λ (k : ℕ). n + k) (sym (looked-stop s g _ _ p _ _ _ (step .entries) t ∙ here g e)) ∙ going .count g e,
       )
 
       pub going-next : passes what p (headView s h) ≡ false → Going d′ (n + m)
@@ -89,6 +93,8 @@ module _ (s : List ℕ) (what : Sought) (p : List ℕ) (c : Cursor) where
         walks = step .walks;
         chosen = only-next _ _ _ _ (step .entries) t ∙ going .chosen;
         place = omega (arith, going .place, step .place, step .after, step .number);
-        count = λ g e. omega (arith, here g e, looked-next s g (compares what) (passes what p) p (entriesFrom s d) (headView s h) (entriesFrom s d′) (step .entries) t, going .count g e);
+        count = λ g e.
+            let next : lookedFrom g d ≡ entryLooked s g (compares what) p (headView s h) + lookedFrom g d′ = looked-next s g _ _ p _ _ _ (step .entries) t in
+            omega (arith, next, here g e, going .count g e);
         few = omega (arith, going .few, step .less, tried, head-few s h what p (step .head));
       }

@@ -58,10 +58,9 @@ nameOf s h = nameField (drop (h .at .0) s)
 unfoldable pub headLooked : List ℕ → Head → Sought → List ℕ → ℕ
 headLooked s h what p = pick (compares what (headView s h)) (looked (nameOf s h) p) 0
 
--- what a search from a cursor looks at is the rules' sum, wherever the index stands that the cursor walks
-abbrev pub Counted : List ℕ → Cursor → Sought → List ℕ → ℕ → Type 0
-Counted s c what p n =
-    (g : Geometry) → c .at .0 ≡ slotAt s g (c .slot .0) → n ≡ searchLooked s g (compares what) (passes what p) p (entriesFrom s c)
+-- what a search from a cursor looks at is the rules' sum over the entries that it meets; the cursor stands where its slot lies
+abbrev pub LookedFrom : List ℕ → Cursor → (Entry → Bool) → (Entry → Bool) → List ℕ → ℕ → Type 0
+LookedFrom s c sought passing p n = (g : Geometry) → c .at .0 ≡ slotAt s g (c .slot .0) → n ≡ searchLooked s g sought passing p (entriesFrom s c)
 
 -- ---- what was found
 unfoldable pub searchView : List ℕ → Search → Option Entry

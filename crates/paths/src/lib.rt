@@ -1,6 +1,7 @@
 // Paths of entries, compared with a path and looked up, by walks from entry to entry. What is looked at of the names is counted.
 
 use comparing::Compared;
+use comparing::apart;
 use comparing::compare;
 use index::Cursor;
 use index::Next;
@@ -12,11 +13,12 @@ ghost use mathlib.Core.Bool.{true};
 ghost use Rattle.rules.specs.Lists.{eqList, any, first};
 ghost use Rattle.rules.specs.Names.{isBelow};
 ghost use Rattle.rules.specs.Index.{runType};
-ghost use Rattle.rules.specs.Paths.{deletedAt, lookup, nextLive, directoryLive, anyBelow};
+ghost use Rattle.rules.specs.Paths.{isLive, liveAt, deletedAt, lookup, nextLive, directoryLive, anyBelow};
 ghost use Rattle.rules.specs.Comparing.{looked};
+ghost use Rattle.comparing.specs.Walk.{isThen};
 ghost use Rattle.slots.specs.View.{headView, HeadIn};
 ghost use Rattle.index.specs.Steps.{Walks, entriesFrom};
-ghost use Rattle.paths.specs.View.{Hits, Searched, isFound, passes, soughtKind, nameOf, headLooked, Counted};
+ghost use Rattle.paths.specs.View.{Hits, Searched, isFound, passes, soughtKind, compares, nameOf, headLooked, LookedFrom};
 
 pub enum Search {
     Nothing,
@@ -31,20 +33,31 @@ pub enum Hit {
 
 // ---- one entry
 
+// The name of the run's entry, compared with the path and the byte `end` behind it.
+fn compare_name(img: &[u8], h: Head, path: &[u8], end: u8) -> Compared
+    requires { ⌜ HeadIn (now img) h × (runType (h .kind) ≡ true) ⌝ }
+    ensures { λ r. ⌜ r .same ≡ isThen end (nameOf (now (img .entry)) h) (now (path .entry)) ⌝ }
+    ensures counted { λ r. ⌜ r .looked ≡ looked (nameOf (now (img .entry)) h) (now (path .entry)) ⌝ }
+{
+    compare(slots::name_field(img, h.at), path, end)
+}
+
 // Whether the run's entry has this path.
 fn has_path(img: &[u8], h: Head, path: &[u8]) -> Compared
     requires { ⌜ HeadIn (now img) h × (runType (h .kind) ≡ true) ⌝ }
-    ensures { λ r. ⌜ (r .same ≡ eqList (headView (now (img .entry)) h .path) (now (path .entry))) × (r .looked ≡ looked (nameOf (now (img .entry)) h) (now (path .entry))) ⌝ }
+    ensures { λ r. ⌜ r .same ≡ eqList (headView (now (img .entry)) h .path) (now (path .entry)) ⌝ }
+    ensures counted { λ r. ⌜ r .looked ≡ looked (nameOf (now (img .entry)) h) (now (path .entry)) ⌝ }
 {
-    compare(slots::name_field(img, h.at), path, 0)
+    compare_name(img, h, path, 0)
 }
 
 // Whether the run's entry lies below this path.
 fn lies_below(img: &[u8], h: Head, path: &[u8]) -> Compared
     requires { ⌜ HeadIn (now img) h × (runType (h .kind) ≡ true) ⌝ }
-    ensures { λ r. ⌜ (r .same ≡ isBelow (now (path .entry)) (headView (now (img .entry)) h .path)) × (r .looked ≡ looked (nameOf (now (img .entry)) h) (now (path .entry))) ⌝ }
+    ensures { λ r. ⌜ r .same ≡ isBelow (now (path .entry)) (headView (now (img .entry)) h .path) ⌝ }
+    ensures counted { λ r. ⌜ r .looked ≡ looked (nameOf (now (img .entry)) h) (now (path .entry)) ⌝ }
 {
-    compare(slots::name_field(img, h.at), path, b'/')
+    compare_name(img, h, path, b'/')
 }
 
 // What an entry is looked for by; a path stands beside it.
@@ -72,13 +85,11 @@ fn is_sought(what: Sought, kind: u8) -> bool
 // Whether the entry passes, and how many bytes of its name were looked at.
 fn passes(img: &[u8], h: Head, what: Sought, path: &[u8]) -> Compared
     requires { ⌜ HeadIn (now img) h ⌝ }
-    ensures { λ r. ⌜ (r .same ≡ passes what (now (path .entry)) (headView (now (img .entry)) h)) × (r .looked ≡ headLooked (now (img .entry)) h what (now (path .entry))) ⌝ }
+    ensures { λ r. ⌜ r .same ≡ passes what (now (path .entry)) (headView (now (img .entry)) h) ⌝ }
+    ensures counted { λ r. ⌜ r .looked ≡ headLooked (now (img .entry)) h what (now (path .entry)) ⌝ }
 {
     if !is_sought(what, h.kind) {
-        return Compared {
-            same: false,
-            looked: 0,
-        };
+        return apart(0);
     }
     match what {
         Sought::Path => has_path(img, h, path),
@@ -94,17 +105,22 @@ fn passes(img: &[u8], h: Head, what: Sought, path: &[u8]) -> Compared
 
 // ---- searches
 
-// What a search meets, and how many bytes of the names on its way it looked at.
+// What a search comes to, and how many bytes of the names on its way it looked at.
 struct Met {
     hit: Hit,
     looked: usize,
+}
+
+pub struct Found {
+    pub entry: Search,
+    pub looked: usize,
 }
 
 // The first entry that passes, and where the walk goes on behind it.
 fn next_hit(img: &[u8], from: Cursor, what: Sought, path: &[u8]) -> Met
     requires { ⌜ Walks (now img) from ⌝ }
     ensures { λ r. ⌜ Hits (now (img .entry)) (passes what (now (path .entry))) (entriesFrom (now (img .entry)) from) (r .hit) ⌝ }
-    ensures counted { λ r. ⌜ Counted (now (img .entry)) from what (now (path .entry)) (r .looked) ⌝ }
+    ensures counted { λ r. ⌜ LookedFrom (now (img .entry)) from (compares what) (passes what (now (path .entry))) (now (path .entry)) (r .looked) ⌝ }
 {
     let mut at = from;
     let mut looked: usize = 0;
@@ -129,15 +145,23 @@ fn next_hit(img: &[u8], from: Cursor, what: Sought, path: &[u8]) -> Met
     }
 }
 
-// The first entry that passes.
-fn seek(img: &[u8], from: Cursor, what: Sought, path: &[u8]) -> Search
+// The first entry that passes, and how many bytes of names were looked at.
+fn seek(img: &[u8], from: Cursor, what: Sought, path: &[u8]) -> Found
     requires { ⌜ Walks (now img) from ⌝ }
-    ensures { λ r. ⌜ Searched (now (img .entry)) (first (passes what (now (path .entry))) (entriesFrom (now (img .entry)) from)) r ⌝ }
+    ensures { λ r. ⌜ Searched (now (img .entry)) (first (passes what (now (path .entry))) (entriesFrom (now (img .entry)) from)) (r .entry) ⌝ }
+    ensures counted { λ r. ⌜ LookedFrom (now (img .entry)) from (compares what) (passes what (now (path .entry))) (now (path .entry)) (r .looked) ⌝ }
 {
-    let hit = next_hit(img, from, what, path).hit;
+    let met = next_hit(img, from, what, path);
+    let hit = met.hit;
     match hit {
-        Hit::Nothing => Search::Nothing,
-        Hit::Entry(h, _) => Search::Entry(h),
+        Hit::Nothing => Found {
+            entry: Search::Nothing,
+            looked: met.looked,
+        },
+        Hit::Entry(h, _) => Found {
+            entry: Search::Entry(h),
+            looked: met.looked,
+        },
     }
 }
 
@@ -150,12 +174,30 @@ pub fn is_found(s: Search) -> bool
     }
 }
 
+// Whether an entry passes.
+fn any_passes(img: &[u8], from: Cursor, what: Sought, path: &[u8]) -> bool
+    requires { ⌜ Walks (now img) from ⌝ }
+    ensures { λ r. ⌜ r ≡ any (passes what (now (path .entry))) (entriesFrom (now (img .entry)) from) ⌝ }
+{
+    let found = seek(img, from, what, path).entry;
+    is_found(found)
+}
+
+// The live entry of the path, and how many bytes of names were looked at.
+pub fn find(img: &[u8], from: Cursor, path: &[u8]) -> Found
+    requires { ⌜ Walks (now img) from ⌝ }
+    ensures { λ r. ⌜ Searched (now (img .entry)) (lookup (now (path .entry)) (entriesFrom (now (img .entry)) from)) (r .entry) ⌝ }
+    ensures counted { λ r. ⌜ LookedFrom (now (img .entry)) from isLive (liveAt (now (path .entry))) (now (path .entry)) (r .looked) ⌝ }
+{
+    seek(img, from, Sought::Path, path)
+}
+
 // The live entry of the path.
 pub fn lookup(img: &[u8], from: Cursor, path: &[u8]) -> Search
     requires { ⌜ Walks (now img) from ⌝ }
     ensures { λ r. ⌜ Searched (now (img .entry)) (lookup (now (path .entry)) (entriesFrom (now (img .entry)) from)) r ⌝ }
 {
-    seek(img, from, Sought::Path, path)
+    find(img, from, path).entry
 }
 
 // The first deleted entry of the path.
@@ -171,7 +213,7 @@ pub fn any_deleted(img: &[u8], from: Cursor, path: &[u8]) -> bool
     requires { ⌜ Walks (now img) from ⌝ }
     ensures { λ r. ⌜ r ≡ any (deletedAt (now (path .entry))) (entriesFrom (now (img .entry)) from) ⌝ }
 {
-    is_found(seek(img, from, Sought::Deleted, path))
+    any_passes(img, from, Sought::Deleted, path)
 }
 
 // The live entry with the lowest first slot not below this one.
@@ -179,7 +221,7 @@ pub fn next_live(img: &[u8], from: Cursor, slot: Slot) -> Search
     requires { ⌜ Walks (now img) from ⌝ }
     ensures { λ r. ⌜ Searched (now (img .entry)) (nextLive (slot .0) (entriesFrom (now (img .entry)) from)) r ⌝ }
 {
-    seek(img, from, Sought::From(slot), b"")
+    seek(img, from, Sought::From(slot), b"").entry
 }
 
 // Whether a live directory has this path.
@@ -187,7 +229,7 @@ pub fn directory_live(img: &[u8], from: Cursor, path: &[u8]) -> bool
     requires { ⌜ Walks (now img) from ⌝ }
     ensures { λ r. ⌜ r ≡ directoryLive (entriesFrom (now (img .entry)) from) (now (path .entry)) ⌝ }
 {
-    is_found(seek(img, from, Sought::Directory, path))
+    any_passes(img, from, Sought::Directory, path)
 }
 
 // Whether a live entry lies below this path.
@@ -195,5 +237,5 @@ pub fn any_below(img: &[u8], from: Cursor, path: &[u8]) -> bool
     requires { ⌜ Walks (now img) from ⌝ }
     ensures { λ r. ⌜ r ≡ anyBelow (now (path .entry)) (entriesFrom (now (img .entry)) from) ⌝ }
 {
-    is_found(seek(img, from, Sought::Below, path))
+    any_passes(img, from, Sought::Below, path)
 }

@@ -6,6 +6,7 @@ use contracts::Listed;
 use contracts::Volume;
 use geometry::Geometry;
 use judging::Judged;
+use paths::Found;
 use paths::Search;
 use slots::Head;
 use units::Slot;
@@ -15,6 +16,7 @@ ghost use mathlib.Core.List.{List, []};
 ghost use Prim.Native.Nat.{ℕ, _≤_};
 ghost use lib.ListN.{length};
 ghost use Rattle.rules.specs.Paths.{lookup};
+ghost use Rattle.rules.specs.Comparing.{findLooked};
 ghost use Rattle.rules.specs.Refusals.{entries};
 ghost use Rattle.rules.specs.Outcome.{noVolume, noEntry, noneListed, numbersOf};
 ghost use Rattle.rules.specs.Outcome.Laws.{denied};
@@ -89,13 +91,22 @@ pub fn open(img: &[u8], out: &mut [u8]) -> Volume
 
 // ---- find
 
+// The live entry of the path, and how many bytes of names the search for it looked at.
+fn search(img: &[u8], g: Geometry, path: &[u8]) -> Found
+    requires { ⌜ Opened (now img) g ⌝ }
+    ensures { λ r. ⌜ Searched (now (img .entry)) (lookup (now (path .entry)) (entries (volumeOf (now (img .entry)) (geometryView g)))) (r .entry) ⌝ }
+    ensures counted { λ r. ⌜ r .looked ≡ findLooked (now (img .entry)) (volumeOf (now (img .entry)) (geometryView g)) (now (path .entry)) ⌝ }
+{
+    let from = super_block::first_slot(img, g);
+    paths::find(img, from, path)
+}
+
 // The live entry of the path.
 fn look_up(img: &[u8], g: Geometry, path: &[u8]) -> Search
     requires { ⌜ Opened (now img) g ⌝ }
     ensures { λ r. ⌜ Searched (now (img .entry)) (lookup (now (path .entry)) (entries (volumeOf (now (img .entry)) (geometryView g)))) r ⌝ }
 {
-    let from = super_block::first_slot(img, g);
-    paths::lookup(img, from, path)
+    search(img, g, path).entry
 }
 
 fn no_entry(n: u32) -> Entry

@@ -8,6 +8,8 @@ use lib.Dec.{eqb}
 use Rattle.rules.specs.Lists.{pick, sum, eqList, part}
 use Rattle.rules.specs.SuperBlock.{Geometry}
 use Rattle.rules.specs.Index.{Entry, nameField, slotAt}
+use Rattle.rules.specs.Paths.{isLive, liveAt}
+use Rattle.rules.specs.Refusals.{Volume, entries}
 pub mod Laws
 
 -- ---- one name, by all bytes that its run has for it: those behind its zero are among them
@@ -58,3 +60,7 @@ entryLooked s g sought path e = pick (sought e) (looked (nameIn s g e) path) 0
 -- and a search's: the sum over the entries that it meets
 unfoldable pub searchLooked : List ℕ → Geometry → (Entry → Bool) → (Entry → Bool) → List ℕ → List Entry → ℕ
 searchLooked s g sought passes path es = sum (entryLooked s g sought path) (met passes es)
+
+-- of find and read: the search for the live entry of a path, among all entries of a volume
+unfoldable pub findLooked : List ℕ → Volume → List ℕ → ℕ
+findLooked s v path = searchLooked s (v .geometry) isLive (liveAt path) path (entries v)

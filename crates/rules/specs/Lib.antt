@@ -8,7 +8,6 @@ pub mod Names
 pub mod Index
 pub mod Regions
 pub mod Paths
-pub mod Comparing
 pub mod Refusals
 pub mod Outcome
 pub mod Reading
@@ -16,3 +15,4 @@ pub mod Writing
 pub mod History
 pub mod Dates
 pub mod Listing
+pub mod Comparing

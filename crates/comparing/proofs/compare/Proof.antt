@@ -5,13 +5,14 @@ use denote.Ref.{now}
 use borrow.Author.Tests.{not-true, not-false}
 use Rattle.rules.specs.Comparing.{looked}
 use Rattle.rules.specs.Comparing.Laws.{looked-most}
+use Rattle.comparing.specs.Walk.{thus}
 use Rattle.comparing.specs.Last.{no-place, compare-apart, compare-walked}
 use borrow.Author.Needs.{needs}
 use Rattle.comparing.proofs.compare.Statement.{statement}
 use Rattle.comparing.proofs.compare.Tie as tie
 
 returns : tie.Need-returns
-returns c = no-place _ _ _ (omega arith)
+returns c = thus _ _ _ _ _ _ (c .apart .ensures) (no-place _ _ _ (omega arith))
 
 returns-2 : tie.Need-returns-2
 returns-2 c = let t = c .before .before .compare-last .ensures in
@@ -36,4 +37,4 @@ returns-3 c = (c .before .before .walk .ensures .0, count c)
 
 pub compare-spec : {M : Type 1} → statement M
 compare-spec =
-    tie.close (tie.spec returns (λ c κs. search needs) returns-2 (λ c κs. search needs) add-t6 returns-3)
+    tie.close (tie.spec (λ c κs. search needs) returns (λ c κs. search needs) returns-2 (λ c κs. search needs) add-t6 returns-3)

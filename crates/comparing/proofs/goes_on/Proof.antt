@@ -1,5 +1,3 @@
-use mathlib.Core.Path.{sym}
-use lib.Dec.{eqb}
 use borrow.Author.Tests.{eq-eqb, ne-eqb}
 use Rattle.rules.specs.Comparing.{goesOn}
 use Rattle.comparing.proofs.goes_on.Statement.{statement}

@@ -3,7 +3,7 @@ use mathlib.Core.Path.{sym, _∙_}
 use native.Mathlib.Omega.{arith}
 use lib.ListN.{length}
 use borrow.Author.Tests.{not-true, not-false}
-use Rattle.comparing.specs.Walk.{Walks, walks-first, walks-stop, walks-next, walks-behind, walks-out}
+use Rattle.comparing.specs.Walk.{thus, Walks, walks-first, walks-stop, walks-next, walks-behind, walks-out}
 use borrow.Author.Needs.{needs}
 use Rattle.comparing.proofs.walk.Statement.{statement}
 use Rattle.comparing.proofs.walk.Tie as tie
@@ -15,9 +15,10 @@ abbrev μ-loop : tie.MeasureT-loop
 μ-loop name path end i₀ i = length path - i
 
 returns : tie.Need-returns Inv-loop μ-loop
-returns c = let g = c .before in
+returns c = let g = c .before .before in
     let l = g .before .before .before .before .loop in
-    walks-stop _ _ _ (l .i) (l .inv .2) (omega arith) (omega arith) (sym (g .goes-on .ensures) ∙ not-true _ (c .if1 .taken))
+    thus _ _ _ _ _ _ (c .apart .ensures)
+    (walks-stop _ _ _ (l .i) (l .inv .2) (omega arith) (omega arith) (sym (g .goes-on .ensures) ∙ not-true _ (c .before .if1 .taken)))
 
 loop-again : tie.Need-loop-again Inv-loop μ-loop
 loop-again c = let g = c .before in
@@ -25,8 +26,8 @@ loop-again c = let g = c .before in
     (omega arith, l .inv .1, walks-next _ _ _ (l .i) (l .inv .2) (omega arith) (omega arith) (sym (g .goes-on .ensures) ∙ not-false _ (c .if1 .left)))
 
 returns-2 : tie.Need-returns-2 Inv-loop μ-loop
-returns-2 c = let l = c .before .before .loop in
-    walks-out _ _ _ (l .i) (l .inv .2) (omega arith)
+returns-2 c = let l = c .before .before .before .loop in
+    thus _ _ _ _ _ _ (c .apart2 .ensures) (walks-out _ _ _ (l .i) (l .inv .2) (omega arith))
 
 returns-3 : tie.Need-returns-3 Inv-loop μ-loop
 returns-3 c = let l = c .before .before .before .loop in
@@ -43,10 +44,12 @@ walk-spec =
     (λ c. search needs)
     (λ c κs. search needs)
     (λ c. search needs)
+    (λ c κs. search needs)
     returns
     (λ c. search needs)
     (λ c. search needs)
     loop-again
+    (λ c κs. search needs)
     returns-2
     (λ c. search needs)
     (λ c. search needs)

@@ -1,20 +1,12 @@
-use Rattle.rules.specs.Paths.Laws.{any-first}
 use Rattle.rules.specs.Paths.{directoryLive}
-use Rattle.paths.specs.View.{passes, searched-found}
-use mathlib.Core.Path.{sym, _∙_}
+use Rattle.paths.specs.View.{passes}
 use borrow.Author.Needs.{needs}
 use Rattle.paths.proofs.directory_live.Statement.{statement}
 use Rattle.paths.proofs.directory_live.Tie as tie
 
-seek-requires : tie.Need-seek-requires
-seek-requires c κs = search needs
-
-is-found-requires : tie.Need-is-found-requires
-is-found-requires c κs = search needs
-
 returns : tie.Need-returns
 unfolding directoryLive passes
-returns c = c .is-found .ensures ∙ searched-found _ _ _ (c .before .seek .ensures) ∙ sym (any-first _ _)
+returns c = c .any-passes .ensures
 
 pub directory-live-spec : {M : Type 1} → statement M
-directory-live-spec = tie.close (tie.spec seek-requires is-found-requires returns)
+directory-live-spec = tie.close (tie.spec (λ c κs. search needs) returns)

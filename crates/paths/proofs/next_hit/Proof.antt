@@ -29,15 +29,15 @@ add-looked c =
 
 returns-2 : tie.Need-returns-2 Inv-loop μ-loop
 returns-2 c =
-    let k = c .before in
-    let h = k .before .before .before in
-    going-found _ _ _ _ _ _ (h .before .before .before .loop .inv) _ _ (step h) _ (k .before .passes .ensures .1) (sym (k .before .passes .ensures .0) ∙ c .if1 .taken)
+    let t = c .before .before in
+    let h = t .before .before in
+    going-found _ _ _ _ _ _ (h .before .before .before .loop .inv) _ _ (step h) _ (t .passes .ensures .1) (sym (t .passes .ensures .0) ∙ c .if1 .taken)
 
 loop-again : tie.Need-loop-again Inv-loop μ-loop
 loop-again c =
-    let k = c .before in
-    let h = k .before .before .before in
-    going-next _ _ _ _ _ _ (h .before .before .before .loop .inv) _ _ (step h) _ (k .before .passes .ensures .1) (sym (k .before .passes .ensures .0) ∙ c .if1 .left)
+    let t = c .before .before in
+    let h = t .before .before in
+    going-next _ _ _ _ _ _ (h .before .before .before .loop .inv) _ _ (step h) _ (t .passes .ensures .1) (sym (t .passes .ensures .0) ∙ c .if1 .left)
 
 pub next-hit-spec : {M : Type 1} → statement M
 next-hit-spec =

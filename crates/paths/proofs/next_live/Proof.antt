@@ -12,7 +12,7 @@ seek-requires c κs = search needs
 
 returns : tie.Need-returns
 unfolding nextLive passes
-returns c = c .seek .ensures
+returns c = c .seek .ensures .0
 
 pub next-live-spec : {M : Type 1} → statement M
 next-live-spec = tie.close (tie.spec slice-aggregate-seek seek-requires returns)

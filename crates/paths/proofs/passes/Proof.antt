@@ -3,6 +3,8 @@ use mathlib.Core.Bool.{true}
 use denote.Ref.{now}
 use borrow.Author.Tests.{not-true, not-false}
 use Rattle.rules.specs.Index.{runType}
+use Rattle.slots.specs.View.{HeadIn}
+use Rattle.comparing.specs.Walk.{thus}
 use Rattle.paths.specs.View.{soughtKind}
 use Rattle.paths.specs.Entries.{tried-not, tried-path, tried-deleted, tried-directory, tried-below, tried-from, sought-run}
 use borrow.Author.Needs.{needs}
@@ -10,13 +12,15 @@ use Rattle.paths.proofs.passes.Statement.{statement}
 use Rattle.paths.proofs.passes.Tie as tie
 
 returns : tie.Need-returns
-returns c = tried-not _ _ _ _ (sym (c .before .is-sought .ensures) ∙ not-true _ (c .if1 .taken))
+returns c = let e = c .before in
+    thus _ _ _ _ _ _ (c .apart .ensures) (tried-not _ _ _ _ (sym (e .before .is-sought .ensures) ∙ not-true _ (e .if1 .taken)))
 
 sought : (c : tie.Else1) → let a = c .before .before .before .before .args in soughtKind (a .what) (a .h .kind) ≡ true
 sought c = sym (c .before .is-sought .ensures) ∙ not-false _ (c .if1 .left)
 
-run : (c : tie.Else1) → runType (c .before .before .before .before .args .h .kind) ≡ true
-run c = let a = c .before .before .before .before .args in sought-run (now (a .img)) (now (a .path)) (a .h) (a .what) (sought c)
+here : (c : tie.Else1) → let a = c .before .before .before .before .args in HeadIn (now (a .img)) (a .h) × (runType (a .h .kind) ≡ true)
+here c = let b = c .before .before .before .before in
+    (b .pre, sought-run (now (b .args .img)) (now (b .args .path)) (b .args .h) (b .args .what) (sought c))
 
 returns-2 : tie.Need-returns-2
 returns-2 c = let w = c .before .enum-told .given .1 in
@@ -43,15 +47,16 @@ passes-spec =
     tie.close
     (tie.spec
     (λ c κs. search needs)
+    (λ c κs. search needs)
     returns
     (λ c. search needs)
-    (λ c κs. (c .before .before .before .before .before .before .pre, run (c .before .before)))
+    (λ c κs. here (c .before .before))
     (λ c. search needs)
-    (λ c κs. (c .before .before .before .before .before .before .pre, run (c .before .before)))
+    (λ c κs. here (c .before .before))
     (λ c. search needs)
-    (λ c κs. (c .before .before .before .before .before .before .pre, run (c .before .before)))
+    (λ c κs. here (c .before .before))
     (λ c. search needs)
-    (λ c κs. (c .before .before .before .before .before .before .pre, run (c .before .before)))
+    (λ c κs. here (c .before .before))
     (λ c. search needs)
     (λ c κs. search needs)
     returns-2

@@ -4,12 +4,15 @@ use Rattle.paths.proofs.seek.Statement.{statement}
 use Rattle.paths.proofs.seek.Tie as tie
 
 returns : tie.Need-returns
-returns c = searched-none _ _ (hit-nothing _ _ _ _ (c .before .before .next-hit .ensures .0) (c .enum-told .given .1))
+returns c =
+    let n = c .before .before .next-hit .ensures in
+    (searched-none _ _ (hit-nothing _ _ _ _ (n .0) (c .enum-told .given .1)), n .1)
 
 returns-2 : tie.Need-returns-2
 returns-2 c =
-    let k = hit-entry _ _ _ _ (c .before .before .before .next-hit .ensures .0) _ _ (c .before .hit .given .1) in
-    searched-some _ _ _ (hit-first _ _ _ _ _ k) (k .head)
+    let n = c .before .before .before .next-hit .ensures in
+    let k = hit-entry _ _ _ _ (n .0) _ _ (c .before .hit .given .1) in
+    (searched-some _ _ _ (hit-first _ _ _ _ _ k) (k .head), n .1)
 
 pub seek-spec : {M : Type 1} → statement M
 seek-spec = tie.close (tie.spec (λ c κs. search needs) (λ c. search needs) (λ c. search needs) returns returns-2)

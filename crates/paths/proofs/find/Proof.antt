@@ -1,0 +1,12 @@
+use Rattle.rules.specs.Paths.{lookup}
+use Rattle.paths.specs.View.{passes, compares}
+use borrow.Author.Needs.{needs}
+use Rattle.paths.proofs.find.Statement.{statement}
+use Rattle.paths.proofs.find.Tie as tie
+
+returns : tie.Need-returns
+unfolding lookup passes compares
+returns c = c .seek .ensures
+
+pub find-spec : {M : Type 1} → statement M
+find-spec = tie.close (tie.spec (λ c κs. search needs) returns)
