@@ -1,6 +1,6 @@
 //! `compare SEED CALLS [KIND]`: a generated script on both stores, line by line. The first difference ends the run and prints a
-//! script that shows it; without one it says how often restore gave each answer. `compare bench`: open and find on a full 16 MiB
-//! volume, both programs in one run. `compare names`: the name rule by both programs and by Rust's own reading of UTF-8, on every
+//! script that shows it; without one it says how often restore gave each answer. `compare bench`: open and find on full 16 MiB
+//! volumes, all programs in one run. `compare names`: the name rule by both programs and by Rust's own reading of UTF-8, on every
 //! short string.
 
 #[cfg(before)]
