@@ -9,7 +9,7 @@ use std::time::{Duration, Instant};
 const BYTES: usize = 16 << 20;
 const ENTRIES: usize = 4094;
 const ROUNDS: u32 = 5;
-/// The longest name that one slot of a file holds has 29 bytes.
+/// What names of 29 bytes have alike; 29 is the most that one slot of a file holds.
 const ALIKE: &[u8] = b"session-of-terminal-7-desk-";
 const DIGITS: &[u8; 64] = b"0123456789ABCDEFGHIJKLMNOPQRSTUVWXYZabcdefghijklmnopqrstuvwxyz+-";
 /// A directory of the longest name: it starts at 10 in the first slot and fills 255 more, its zero apart.
@@ -20,9 +20,15 @@ const NAME_ROUNDS: u32 = 200;
 const NAMES: [(&str, &str); 4] =
     [("ASCII", "session-01234."), ("ASCII, mixed", "aZ0-bY9_c+X8 "), ("French", "prêté à l'été "), ("Japanese", "日本語")];
 
+/// The name of each file by its number.
+type Naming = fn(usize) -> Vec<u8>;
+
 /// The full volumes, by how their names differ; one slot holds each.
-const FULL: [(&str, fn(usize) -> Vec<u8>); 3] =
-    [("numbered", numbered), ("names that differ in their last two bytes", last), ("names that differ in their first two bytes", first)];
+const FULL: [(&str, Naming); 3] = [
+    ("numbered", numbered),
+    ("names that differ in their last two bytes", last),
+    ("names that differ in their first two bytes", first),
+];
 
 /// What is timed: another commit's library, if one was linked, the library and the second program.
 const PROGRAMS: &[(&str, &dyn Store)] = &[
@@ -83,7 +89,7 @@ fn named_volume(pattern: &str) -> Result<Vec<u8>, String> {
 }
 
 /// Files of a byte each, as many as the index area can hold. The second program writes them.
-fn full_volume(name: fn(usize) -> Vec<u8>) -> Result<Vec<u8>, String> {
+fn full_volume(name: Naming) -> Result<Vec<u8>, String> {
     let mut image = vec![0; BYTES];
     let written = |refusal: u8| if refusal == 0 { Ok(()) } else { Err(format!("refused {refusal}")) };
     written(second::format(&mut image, 512, 1, b"BENCH", 0).refusal)?;

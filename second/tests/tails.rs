@@ -8,7 +8,11 @@ use second::superblock::Geometry;
 use second::volume::Volume;
 use std::collections::BTreeMap;
 
-const CALLS: u64 = 20_000;
+/// So many that every floor below is passed several times over.
+const CALLS: u64 = 40_000;
+/// What every case and every mistake must be met more often than. Fewer calls search for deleted entries.
+const LIVE_FLOOR: u64 = 20;
+const DELETED_FLOOR: u64 = 5;
 
 /// A named run: its name and all the bytes it has for one.
 struct Run {
@@ -51,6 +55,11 @@ impl Run {
         let differences = differences(&self.name, path);
         (self.name.len() == path.len() && differences.len() == 1).then(|| differences[0])
     }
+
+    /// Whether these bytes lie behind the name, its zero among them.
+    fn holds(&self, bytes: &[u8]) -> bool {
+        self.field[self.name.len()..].windows(bytes.len()).any(|part| part == bytes)
+    }
 }
 
 fn differences(one: &[u8], other: &[u8]) -> Vec<usize> {
@@ -78,16 +87,17 @@ fn unhex(word: &str) -> Vec<u8> {
     (0..digits.len()).step_by(2).map(|at| u8::from_str_radix(&digits[at..at + 2], 16).unwrap()).collect()
 }
 
-/// Runs a script and shows every call that has a path: the word, the path, the runs before it, and the answer.
-fn each_search(seed: u64, mut show: impl FnMut(&str, &[u8], &[Run], u8)) -> Session {
+/// Runs a script and shows every call that searched: whether for a live entry or for a deleted one, the path, the runs
+/// before the call, and the answer. Refusals 1 to 10 come before any search.
+fn each_search(seed: u64, mut show: impl FnMut(bool, &[u8], &[Run], u8)) -> Session {
     let mut session = Session::without_digests();
     for line in generator::script(seed, CALLS, Some("tails")).unwrap_or_default().lines() {
         let words: Vec<&str> = line.split(' ').collect();
-        let searches = matches!(words[0], "find" | "read" | "mkfile" | "mkdir" | "delete" | "restore");
-        let before = if searches { runs(session.image()) } else { Vec::new() };
+        let has_path = matches!(words[0], "find" | "read" | "mkfile" | "mkdir" | "delete" | "restore");
+        let before = if has_path { runs(session.image()) } else { Vec::new() };
         session.execute(line).unwrap();
-        if searches {
-            show(words[0], &unhex(words[1]), &before, session.last);
+        if has_path && !(1..=10).contains(&session.last) {
+            show(words[0] != "restore", &unhex(words[1]), &before, session.last);
         }
     }
     session
@@ -164,26 +174,30 @@ fn last_character(text: &[u8]) -> &[u8] {
     &text[start.unwrap_or(0)..]
 }
 
-/// How often a search met each of the cases, by the word of the call, among the runs that it looks at.
+/// Counts by name, those of searches for live entries apart from those for deleted ones.
+type Tally = BTreeMap<(&'static str, bool), u64>;
+
+fn assert_floors(tally: &Tally, names: usize, what: &str) {
+    for ((name, live), count) in tally {
+        println!("{count} {} {name}", if *live { "live" } else { "deleted" });
+    }
+    assert_eq!(tally.len(), 2 * names);
+    let floor = |live| if live { LIVE_FLOOR } else { DELETED_FLOOR };
+    let few: Vec<_> = tally.iter().filter(|((_, live), count)| **count <= floor(*live)).collect();
+    assert!(few.is_empty(), "{what} too seldom: {few:?}");
+}
+
+/// How often a search met each of the cases among the runs that it looks at, the live or the deleted ones.
 #[test]
 fn cases_of_every_sort() {
-    let mut counts: BTreeMap<(&str, bool), u64> = BTreeMap::new();
-    each_search(22, |word, path, runs, _| {
-        if path.is_empty() || path.contains(&0) {
-            return;
-        }
-        let live = word != "restore";
+    let mut counts = Tally::new();
+    each_search(22, |live, path, runs, _| {
         for (name, case) in CASES {
             let met = runs.iter().any(|run| run.live == live && case(run, path));
             *counts.entry((name, live)).or_default() += u64::from(met);
         }
     });
-    for ((name, live), count) in &counts {
-        println!("{count} {} {name}", if *live { "live" } else { "deleted" });
-    }
-    assert_eq!(counts.len(), 2 * CASES.len());
-    let few: Vec<_> = counts.iter().filter(|((_, live), count)| **count <= if *live { 20 } else { 5 }).collect();
-    assert!(few.is_empty(), "{few:?}");
+    assert_floors(&counts, CASES.len(), "met");
 }
 
 /// What the runs together are to a wanted path.
@@ -204,13 +218,6 @@ const COMPANIES: [(&str, Company); 8] = [
     ("deleted twice, and a prefix goes on so", |runs, path| named(runs, path, false) > 1 && goes_on(runs, path)),
 ];
 
-impl Run {
-    /// Whether these bytes lie behind the name, its zero among them.
-    fn holds(&self, bytes: &[u8]) -> bool {
-        self.field[self.name.len()..].windows(bytes.len()).any(|part| part == bytes)
-    }
-}
-
 fn named(runs: &[Run], path: &[u8], live: bool) -> usize {
     runs.iter().filter(|run| run.live == live && run.name == path).count()
 }
@@ -228,7 +235,7 @@ fn companies_of_every_sort() {
     let mut counts = [0; COMPANIES.len()];
     each_search(23, |_, path, runs, _| {
         for (count, (_, company)) in counts.iter_mut().zip(COMPANIES) {
-            *count += u64::from(!path.is_empty() && company(runs, path));
+            *count += u64::from(company(runs, path));
         }
     });
     for (count, (name, _)) in counts.iter().zip(COMPANIES) {
@@ -275,29 +282,18 @@ fn searched_once(runs: &[&Run], path: &[u8]) -> Option<usize> {
     first.filter(|place| runs[*place].name == path)
 }
 
-/// Each mistake would give itself away by a wrong answer, not once but often.
+/// A search with any of these mistakes would find another entry, none counted as one, and not once but often.
 #[test]
 fn mistakes_show() {
-    let mut counts: BTreeMap<(&str, &str), u64> = BTreeMap::new();
-    each_search(24, |word, path, runs, answer| {
-        if path.is_empty() || path.contains(&0) {
-            return;
-        }
-        let live = word != "restore";
+    let mut counts = Tally::new();
+    each_search(24, |live, path, runs, answer| {
         let looked_at: Vec<&Run> = runs.iter().filter(|run| run.live == live).collect();
         let right = searched(&looked_at, path, |run, path| run.name == path);
         assert!(answer != 11 || right.is_none());
-        let word = if live { "find" } else { "restore" };
         let wrong = MISTAKES.map(|(name, same)| (name, searched(&looked_at, path, same)));
         for (name, found) in wrong.into_iter().chain([("gives up too early", searched_once(&looked_at, path))]) {
-            *counts.entry((name, word)).or_default() += u64::from(found != right);
+            *counts.entry((name, live)).or_default() += u64::from(found != right);
         }
     });
-    for ((name, word), count) in &counts {
-        println!("{count} {word} {name}");
-    }
-    assert_eq!(counts.len(), 2 * (MISTAKES.len() + 1));
-    let few: Vec<_> =
-        counts.iter().filter(|((_, word), count)| **count <= if *word == "find" { 20 } else { 5 }).collect();
-    assert!(few.is_empty(), "{few:?}");
+    assert_floors(&counts, MISTAKES.len() + 1, "would find another entry");
 }

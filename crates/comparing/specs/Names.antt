@@ -1,11 +1,11 @@
 -- What the walk's answer says of a stored name: it is the path, or it lies below it.
 use Prim.Native.Nat.{ℕ}
 use mathlib.Core.Path.{_≡_, refl, sym, _∙_}
-use mathlib.Core.Bool.{Bool, true, false, _&&_, _||_, not}
+use mathlib.Core.Bool.{Bool, true, false, _&&_, not}
 use mathlib.Core.List.{List, [], _∷_}
 use lib.Dec.{eqb}
-use borrow.Author.Tests.{eqb-true, eq-eqb}
-use Rattle.rules.specs.Lists.Laws.{clash, and-left, and-right, and-last}
+use borrow.Author.Tests.{eqb-true}
+use Rattle.rules.specs.Lists.Laws.{clash, and-left, and-right, and-last, or-other, eqb-swap}
 use Rattle.rules.specs.Lists.{pick, eqList}
 use Rattle.rules.specs.Fields.{upToZero, hasZero}
 use Rattle.rules.specs.Names.{slash, isBelow}
@@ -34,25 +34,12 @@ unfolding eqList pick
 path-end b bs true = refl
 path-end b bs false = refl
 
-or-other : (t u : Bool) → (t || u) ≡ true → t ≡ false → u ≡ true
-or-other true u e f = clash f
-or-other false u e f = e
-
 pub then-path : (name path : List ℕ) → hasZero name ≡ true → isThen 0 name path ≡ eqList (upToZero name) path
 unfolding isThen goesOn upToZero hasZero
 then-path [] path z = clash (sym z)
 then-path (b ∷ bs) [] z = path-end b (upToZero bs) (eqb b 0)
 then-path (b ∷ bs) (p ∷ ps) z =
     step-off (eqb b 0) (eqb b p) _ _ (λ f. then-path bs ps (or-other (eqb b 0) (hasZero bs) z f)) ∙ sym (path-step b p (upToZero bs) ps (eqb b 0))
-
-eqb-swap : (a b : ℕ) → eqb a b ≡ eqb b a
-eqb-swap a b = by (eqb a b) refl (eqb b a) refl
-  where
-    by : (t : Bool) → eqb a b ≡ t → (u : Bool) → eqb b a ≡ u → t ≡ u
-    by true e true f = refl
-    by true e false f = clash (sym (eq-eqb b a (sym (eqb-true a b e))) ∙ f)
-    by false e true f = clash (sym (eq-eqb a b (sym (eqb-true b a f))) ∙ e)
-    by false e false f = refl
 
 below-end : (b : ℕ) (bs : List ℕ) (t : Bool) → eqb b 0 ≡ t → eqb b slash ≡ isBelow [] (pick t [] (b ∷ bs))
 unfolding isBelow pick

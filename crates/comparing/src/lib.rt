@@ -12,7 +12,7 @@ pub struct Compared {
     pub looked: usize,
 }
 
-// The two differ, which so many bytes of the name have shown.
+// A no, for which so many bytes of a name were looked at.
 pub fn apart(looked: usize) -> Compared
     ensures { λ r. ⌜ (r .same ≡ false) × (r .looked ≡ looked) ⌝ }
 {
@@ -71,7 +71,7 @@ fn walk(name: &[u8], path: &[u8], end: u8) -> Compared
 }
 
 // Whether the name is the path and then the byte `end`: zero where it is the path itself, a slash where it lies below the path. The name
-// comes with all bytes that its run has for it, since its zero is not sought first.
+// comes with all bytes that its run has for it, since its zero is not sought first. No image is longer than the bound, under which no count wraps.
 pub fn compare(name: &[u8], path: &[u8], end: u8) -> Compared
     requires { ⌜ length (now name) ≤ 16_777_216 ⌝ }
     ensures { λ r. ⌜ r .same ≡ isThen end (now (name .entry)) (now (path .entry)) ⌝ }

@@ -6,7 +6,7 @@ use mathlib.Core.List.{List, [], _∷_}
 use lib.Dec.{leb}
 use borrow.Author.Tests.{eqb-true}
 use Rattle.rules.specs.Lists.{pick, only, eqList}
-use Rattle.rules.specs.Lists.Laws.{clash, and-true, only-nil, only-yes, only-no}
+use Rattle.rules.specs.Lists.Laws.{and-true, only-nil, only-yes, only-no}
 use Rattle.rules.specs.Fields.{hasZero}
 use Rattle.rules.specs.Index.{Entry, runType, typeDirectory, nameGood}
 use Rattle.rules.specs.Names.{slash, isBelow}
@@ -20,7 +20,7 @@ use Rattle.slots.specs.declared.Head.{Head}
 use Rattle.slots.specs.View.{headView, HeadIn, path-is}
 use Rattle.paths.specs.declared.Sought.{Sought}
 use Rattle.paths.specs.declared.Sought.the-variants.{Path as byPath, Deleted as byDeleted, Directory as byDirectory, Below as byBelow, From as bySlot}
-use Rattle.paths.specs.View.{liveBelow, soughtKind, passes, compares, nameOf, headLooked}
+use Rattle.paths.specs.View.{liveBelow, soughtKind, passes, byName, compares, nameOf, headLooked}
 
 -- ---- a turn of a walk over es: none is left, or x is next and xs behind it
 module _ (p : Entry → Bool) (es : List Entry) where
@@ -52,7 +52,7 @@ module _ (s p : List ℕ) (h : Head) where
   Tried what same n = (same ≡ passes what p (headView s h)) × (n ≡ headLooked s h what p)
 
   pub tried-not : (what : Sought) → soughtKind what (h .kind) ≡ false → Tried what false 0
-  unfolding soughtKind passes compares headLooked liveAt deletedAt isDirectoryAt liveBelow isLive isDeleted headView pick
+  unfolding soughtKind passes byName compares headLooked liveAt deletedAt isDirectoryAt liveBelow isLive isDeleted headView pick
   tried-not byPath t = rw t (refl, refl)
   tried-not byDeleted t = rw t (refl, refl)
   tried-not byDirectory t = rw t (refl, refl)
@@ -62,23 +62,23 @@ module _ (s p : List ℕ) (h : Head) where
   -- what compares names
   module _ (same : Bool) (n : ℕ) (count : n ≡ looked (nameOf s h) p) where
     pub tried-path : soughtKind byPath (h .kind) ≡ true → same ≡ eqList (headView s h .path) p → Tried byPath same n
-    unfolding soughtKind passes compares headLooked liveAt isLive headView pick
+    unfolding soughtKind passes byName compares headLooked liveAt isLive headView pick
     tried-path t e = rw t (e, count)
 
     pub tried-deleted : soughtKind byDeleted (h .kind) ≡ true → same ≡ eqList (headView s h .path) p → Tried byDeleted same n
-    unfolding soughtKind passes compares headLooked deletedAt isDeleted headView pick
+    unfolding soughtKind passes byName compares headLooked deletedAt isDeleted headView pick
     tried-deleted t e = rw t (e, count)
 
     pub tried-directory : soughtKind byDirectory (h .kind) ≡ true → same ≡ eqList (headView s h .path) p → Tried byDirectory same n
-    unfolding soughtKind passes compares headLooked isDirectoryAt headView pick
+    unfolding soughtKind passes byName compares headLooked isDirectoryAt headView pick
     tried-directory t e = rw t (e, count)
 
     pub tried-below : soughtKind byBelow (h .kind) ≡ true → same ≡ isBelow p (headView s h .path) → Tried byBelow same n
-    unfolding soughtKind passes compares headLooked liveBelow isLive headView pick
+    unfolding soughtKind passes byName compares headLooked liveBelow isLive headView pick
     tried-below t e = rw t (e, count)
 
   pub tried-from : (k : Slot) (same : Bool) → soughtKind (bySlot k) (h .kind) ≡ true → same ≡ leb (k .0) (h .slot .0) → Tried (bySlot k) same 0
-  unfolding soughtKind passes compares headLooked isLive headView pick
+  unfolding soughtKind passes byName compares headLooked isLive headView pick
   tried-from k same t e = rw t (e, refl)
 
   pub sought-run : (what : Sought) → soughtKind what (h .kind) ≡ true → runType (h .kind) ≡ true
@@ -91,9 +91,5 @@ module _ (s p : List ℕ) (h : Head) where
 
   -- a name that is compared is a run's
   pub compared-run : (what : Sought) → compares what (headView s h) ≡ true → runType (h .kind) ≡ true
-  unfolding compares isLive isDeleted headView
-  compared-run byPath t = live-run (h .kind) t
-  compared-run byDeleted t = gone-run (h .kind) t
-  compared-run byDirectory t = directory-run (h .kind) (eqb-true (h .kind) typeDirectory t)
-  compared-run byBelow t = live-run (h .kind) t
-  compared-run (bySlot k) t = clash (sym t)
+  unfolding compares headView
+  compared-run what t = sought-run what (and-true (byName what) (soughtKind what (h .kind)) t .1)

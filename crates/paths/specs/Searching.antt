@@ -9,7 +9,7 @@ use lib.ListN.{drop}
 use Rattle.rules.specs.Lists.{pick, only}
 use Rattle.rules.specs.Lists.Laws.{pick-true, pick-false}
 use Rattle.rules.specs.SuperBlock.{Geometry}
-use Rattle.rules.specs.Index.{Entry, nameField, slotAt}
+use Rattle.rules.specs.Index.{nameField, slotAt}
 use Rattle.rules.specs.Comparing.{looked, nameIn, entryLooked, searchLooked}
 use Rattle.rules.specs.Comparing.Laws.{looked-most, looked-end, looked-stop, looked-next}
 use Rattle.slots.specs.declared.Head.{Head}
@@ -52,7 +52,7 @@ module _ (s : List ℕ) (what : Sought) (p : List ℕ) (c : Cursor) where
     pub chosen : only (passes what p) (entriesFrom s d) ≡ only (passes what p) (entriesFrom s c)
     pub place : d .at .0 + 64 * c .slot .0 ≡ c .at .0 + 64 * d .slot .0  -- as far apart in bytes as in slots
     pub count : (g : Geometry) → c .at .0 ≡ slotAt s g (c .slot .0) → n + lookedFrom g d ≡ lookedFrom g c
-    pub few : n + 16_385 * d .left ≤ 16_385 * 262_144
+    pub few : n + 16_385 * d .left ≤ 16_385 * 262_144  -- no image has more slots
 
   pub going-first : Walks s c → Going c 0
   going-first w = record {

@@ -11,7 +11,7 @@ use Rattle.rules.specs.Lists.Laws.{first-chosen, first-unchosen}
 use Rattle.rules.specs.SuperBlock.{Geometry}
 use Rattle.rules.specs.Names.{isBelow}
 use Rattle.rules.specs.Index.{Entry, liveType, deletedType, typeDirectory, nameField, slotAt}
-use Rattle.rules.specs.Paths.{isLive, isDeleted, liveAt, deletedAt, isDirectoryAt}
+use Rattle.rules.specs.Paths.{isLive, liveAt, deletedAt, isDirectoryAt}
 use Rattle.rules.specs.Comparing.{looked, searchLooked}
 use Rattle.slots.specs.declared.Head.{Head}
 use Rattle.slots.specs.View.{headView, HeadIn}
@@ -44,12 +44,15 @@ passes byBelow p e = liveBelow p e
 passes (bySlot k) p e = isLive e && leb (k .0) (e .slot)
 
 -- whose names are compared with the path
+unfoldable pub byName : Sought → Bool
+byName byPath = true
+byName byDeleted = true
+byName byDirectory = true
+byName byBelow = true
+byName (bySlot k) = false
+
 unfoldable pub compares : Sought → Entry → Bool
-compares byPath e = isLive e
-compares byDeleted e = isDeleted e
-compares byDirectory e = eqb (e .kind) typeDirectory
-compares byBelow e = isLive e
-compares (bySlot k) e = false
+compares what e = byName what && soughtKind what (e .kind)
 
 -- the name of a head's run, by all its bytes, and how many of them are looked at
 abbrev pub nameOf : List ℕ → Head → List ℕ

@@ -82,7 +82,7 @@ fn is_sought(what: Sought, kind: u8) -> bool
     }
 }
 
-// Whether the entry passes, and how many bytes of its name were looked at.
+// Whether the entry passes (`same`), and how many bytes of its name were looked at. A name is compared only where the kind is sought.
 fn passes(img: &[u8], h: Head, what: Sought, path: &[u8]) -> Compared
     requires { ⌜ HeadIn (now img) h ⌝ }
     ensures { λ r. ⌜ r .same ≡ passes what (now (path .entry)) (headView (now (img .entry)) h) ⌝ }

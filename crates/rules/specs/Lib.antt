@@ -1,4 +1,4 @@
--- The rules, in the order of document 01's sections. Each module states its rules; its `Laws` are what proofs go by.
+-- The rules, in the order of document 01's sections; what K3 counts comes last. Each module states its rules; its `Laws` are what proofs go by.
 pub mod Lists
 pub mod Text
 pub mod Fields

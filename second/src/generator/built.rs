@@ -252,7 +252,8 @@ impl Builder {
     }
 }
 
-fn name_at(kind: u8) -> usize {
+/// Where the name starts. Only kinds that have one are asked about, so the fallback is never met.
+pub fn name_at(kind: u8) -> usize {
     index::name_at(kind).unwrap_or(DIRECTORY_NAME_AT)
 }
 
@@ -261,9 +262,9 @@ pub fn capacity(kind: u8, slots: u64) -> usize {
     64 * slots as usize - name_at(kind)
 }
 
-/// The fewest slots of a run that has at least so many.
+/// The fewest slots of a run that has at least so many bytes for a name.
 pub fn slots_for(kind: u8, bytes: usize) -> u64 {
-    (bytes + name_at(kind)).div_ceil(64).max(1) as u64
+    (bytes + name_at(kind)).div_ceil(64) as u64
 }
 
 /// Looks at everything, then writes into the holes.

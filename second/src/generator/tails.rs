@@ -1,10 +1,10 @@
 //! Names that are nearly the wanted one, in runs with more slots than they need. The bytes behind the zero are chosen,
 //! so that the byte at the wanted path's last place is alike far more often than the path is.
 
-use super::built::{capacity, slots_for, Builder};
+use super::built::{capacity, name_at, slots_for, Builder};
 use super::{least_reserved, text, Known, Writer};
 use crate::bytes::put;
-use crate::index::{self, DELETED_DIRECTORY, DELETED_FILE, DIRECTORY, FILE};
+use crate::index::{DELETED_DIRECTORY, DELETED_FILE, DIRECTORY, FILE};
 use crate::names;
 use crate::superblock::Geometry;
 use crate::xorshift::Xorshift;
@@ -384,7 +384,7 @@ fn some_path(w: &mut Writer, wanted: &[Vec<u8>]) -> Vec<u8> {
         11 | 21 => below(rng, &path),
         12 => twist(rng, &path, place),
         13 => other_character(rng, &path),
-        14 => with_zero(rng, &path, place),
+        14 => no_path(rng, &path, place),
         15 => names::parent(&path).unwrap_or(&path).to_vec(),
         17 | 22 => past_its_run(w),
         _ => path,
@@ -405,8 +405,8 @@ fn homeless(w: &mut Writer) -> Vec<u8> {
     w.rng.pick(&deleted).path
 }
 
-/// With a zero at this place the argument may be all that stands in a run.
-fn with_zero(rng: &mut Xorshift, path: &[u8], place: usize) -> Vec<u8> {
+/// What cannot be a path: nothing at all, or bytes with a zero among them, as they may well stand in a run.
+fn no_path(rng: &mut Xorshift, path: &[u8], place: usize) -> Vec<u8> {
     match rng.below(5) {
         0 => Vec::new(),
         1 => [path, b"\0"].concat(),
@@ -425,7 +425,7 @@ fn past_its_run(w: &mut Writer) -> Vec<u8> {
     let Known { path, directory, slot, .. } = w.rng.pick(&known[early..]);
     let Some(geometry) = w.geometry() else { return path };
     let kind = if directory { DIRECTORY } else { FILE };
-    let at = geometry.slot_offset(slot) + index::name_at(kind).unwrap_or_default();
+    let at = geometry.slot_offset(slot) + name_at(kind);
     let left = w.image().len() - at;
     let near = path.len() + w.rng.below(200) as usize;
     let length = w.rng.pick(&[near, near, left - 64, left, left, left + 1]);

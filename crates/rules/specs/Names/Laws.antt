@@ -10,13 +10,13 @@ use lib.ListN.{length, getD, take}
 use lib.Seq.{take-suc, take-length}
 use lib.Dec.{eqb, leb}
 use borrow.Author.Tests.{eq-eqb, ne-eqb, le-leb, lt-leb, leb-true}
-use Rattle.rules.specs.Lists.{pick, all, any, eqList}
+use Rattle.rules.specs.Lists.{pick, all, any}
 use Rattle.rules.specs.Lists.Laws.{clash, and-true, and-right}
 use Rattle.rules.specs.Fields.{upToZero}
 use Rattle.rules.specs.Fields.Laws.{zero-cons, zero-here, upToZero-take}
 use Rattle.rules.specs.Utf8.{within, encode, encodeAll, First, ill, char, firstChar, also, onward, decode}
 use Rattle.rules.specs.Utf8.Laws.{within-in, within-above, first-one, decode-equation, encode-one, encode-two, encode-three, encode-four, encode-decode}
-use Rattle.rules.specs.Names.{slash, isMark, codeGood, codesGood, textGood, intoFirst, parts, partGood, pathGood, newPathGood, volumeTextGood, volumeNameGood, leadIf, leading, isBelow}
+use Rattle.rules.specs.Names.{slash, isMark, codeGood, codesGood, textGood, intoFirst, parts, partGood, pathGood, newPathGood, volumeTextGood, volumeNameGood, leadIf, leading}
 
 -- ---- codes
 mark-high : (c : ℕ) → 0x7F ≤ c → isMark c ≡ false
@@ -177,25 +177,6 @@ volume-text n e = and-true (textGood n) (not (any (eqb slash) n)) e .0
 pub volume-name : (n : List ℕ) → volumeNameGood n ≡ true → (volumeTextGood n ≡ true) × (length n ≤ 51)
 unfolding volumeNameGood
 volume-name n e = let r = and-true (volumeTextGood n) (leb (length n) 51) e in (r .0, leb-true _ _ (r .1))
-
--- ---- below a path, by what stands behind the path's own bytes
-pub below-short : (a p : List ℕ) → length p ≤ length a → isBelow a p ≡ false
-unfolding isBelow
-below-short a [] h = refl
-below-short [] (b ∷ bs) h = absurd (omega arith)
-below-short (x ∷ xs) (b ∷ bs) h = and-right (eqb x b) _ (below-short xs bs (omega arith))
-
-pub below-other : (a p : List ℕ) → length a < length p → (getD p (length a) 0 ≡ slash → ⊥) → isBelow a p ≡ false
-unfolding isBelow
-below-other a [] h d = refl
-below-other [] (b ∷ bs) h d = ne-eqb b slash d
-below-other (x ∷ xs) (b ∷ bs) h d = and-right (eqb x b) _ (below-other xs bs (omega arith) d)
-
-pub below-slash : (a p : List ℕ) → length a < length p → getD p (length a) 0 ≡ slash → isBelow a p ≡ eqList a (take (length a) p)
-unfolding isBelow eqList
-below-slash a [] h e = absurd (omega arith)
-below-slash [] (b ∷ bs) h e = eq-eqb b slash e
-below-slash (x ∷ xs) (b ∷ bs) h e = ap (λ t. eqb x b && t) (below-slash xs bs (omega arith) e)
 
 -- ---- leading paths, with one byte more behind
 lead-slash : (xs : List ℕ) → leading (xs ++ slash ∷ []) ≡ leading xs ++ (xs ∷ [])
