@@ -1,5 +1,6 @@
-//! Links the static library that `rt staticlib sfs` wrote. With `SFS_BEFORE` set to the static library of another commit (an absolute path), that one is linked
-//! beside it under names of its own, so that the benchmark times both in one run; its interface must be the same.
+//! Links the static library that `rt staticlib sfs` wrote. With `SFS_BEFORE` set to the static library of another commit (an absolute
+//! path), that one is linked beside it under names of its own, so that the benchmark times both in one run; its interface must be the
+//! same.
 
 use std::collections::BTreeSet;
 use std::path::Path;

@@ -32,42 +32,42 @@ module _ (end : ℕ) (name path : List ℕ) where
   walkedFrom i = walked (drop i name) (drop i path)
 
   -- what is left answers as the whole, and is all but i bytes of what is looked at
-  pub record Walks (i : ℕ) : Type 0 where
+  pub record WalkedTo (i : ℕ) : Type 0 where
     pub answer : thenFrom i ≡ isThen end name path
     pub count : i + walkedFrom i ≡ walked name path
 
-  pub walks-first : Walks 0
-  walks-first = record { answer = refl; count = zero-add _ }
+  pub walked-to-first : WalkedTo 0
+  walked-to-first = record { answer = refl; count = zero-add _ }
 
-  module _ (i : ℕ) (so-far : Walks i) where
+  module _ (i : ℕ) (so-far : WalkedTo i) where
     -- both have a byte there
     module _ (h : i < length name) (k : i < length path) where
-      pub walks-stop : goesOn (getD name i 0) (getD path i 0) ≡ false → (false ≡ isThen end name path) × (i + 1 ≡ walked name path)
+      pub walked-to-stop : goesOn (getD name i 0) (getD path i 0) ≡ false → (false ≡ isThen end name path) × (i + 1 ≡ walked name path)
       unfolding isThen walked pick
-      walks-stop t =
+      walked-to-stop t =
           let a : thenFrom i ≡ false = rw (drop-cons name i 0 h, drop-cons path i 0 k) (and-left _ _ t) in
           let w : walkedFrom i ≡ 1 = rw (drop-cons name i 0 h, drop-cons path i 0 k, t) refl in
           (sym a ∙ so-far .answer, omega (arith, so-far .count))
 
-      pub walks-next : goesOn (getD name i 0) (getD path i 0) ≡ true → Walks (i + 1)
+      pub walked-to-next : goesOn (getD name i 0) (getD path i 0) ≡ true → WalkedTo (i + 1)
       unfolding isThen walked pick
-      walks-next t =
+      walked-to-next t =
           let a : thenFrom (i + 1) ≡ thenFrom i = rw (drop-cons name i 0 h, drop-cons path i 0 k, add-one, t) refl in
           let w : walkedFrom i ≡ 1 + walkedFrom (i + 1) = rw (drop-cons name i 0 h, drop-cons path i 0 k, add-one, t) refl in
           record { answer = a ∙ so-far .answer; count = omega (arith, so-far .count) }
 
     -- the path ends there, and the name goes on
-    pub walks-behind : i < length name → length path ≤ i → (eqb (getD name i 0) end ≡ isThen end name path) × (i + 1 ≡ walked name path)
+    pub walked-to-behind : i < length name → length path ≤ i → (eqb (getD name i 0) end ≡ isThen end name path) × (i + 1 ≡ walked name path)
     unfolding isThen walked
-    walks-behind h k =
+    walked-to-behind h k =
         let a : thenFrom i ≡ eqb (getD name i 0) end = rw (drop-cons name i 0 h, drop-of-length-le path {i = i} k) refl in
         let w : walkedFrom i ≡ 1 = rw (drop-cons name i 0 h, drop-of-length-le path {i = i} k) refl in
         (sym a ∙ so-far .answer, omega (arith, so-far .count))
 
     -- the name has no more bytes
-    pub walks-out : length name ≤ i → (false ≡ isThen end name path) × (i ≡ walked name path)
+    pub walked-to-out : length name ≤ i → (false ≡ isThen end name path) × (i ≡ walked name path)
     unfolding isThen walked
-    walks-out h =
+    walked-to-out h =
         let a : thenFrom i ≡ false = rw (drop-of-length-le name {i = i} h) refl in
         let w : walkedFrom i ≡ 0 = rw (drop-of-length-le name {i = i} h) refl in
         (sym a ∙ so-far .answer, omega (arith, so-far .count))
