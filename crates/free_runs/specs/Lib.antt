@@ -1,3 +1,4 @@
 pub mod Runs
+pub mod InOrder
 pub mod Sums
 pub mod View

@@ -8,8 +8,8 @@ use native.Mathlib.Omega.{arith}
 use native.Mathlib.Decide.{decLe}
 use lib.Dec.{ltb, leb}
 use borrow.Author.Tests.{ltb-true, leb-true, lt-ltb, le-ltb, le-leb}
-use Rattle.rules.specs.Lists.{pick, any, firstIf}
-use Rattle.rules.specs.Lists.Laws.{and-true, and-both, and-left, or-right, pick-true, pick-false}
+use Rattle.rules.specs.Lists.{any, firstIf}
+use Rattle.rules.specs.Lists.Laws.{and-true, and-both, and-left, or-right}
 use Rattle.rules.specs.Index.{Entry}
 use Rattle.rules.specs.Regions.{holds, busy, runFree, lowestFrom, lowestFree}
 
@@ -26,11 +26,6 @@ meets-says b k e h =
 says-meets : (b k : ℕ) (e : Entry) → max b (e .start) < b + k → max b (e .start) < e .end → meets b k e ≡ true
 unfolding meets
 says-meets b k e h l = and-both _ _ (lt-ltb _ _ h) (lt-ltb _ _ l)
-
--- then no start before the region's end has k free blocks
-meets-on : (b k v : ℕ) (e : Entry) → meets b k e ≡ true → b ≤ v → v < e .end → meets v k e ≡ true
-meets-on b k v e h l u = let p = meets-says b k e h in
-    says-meets v k e (omega arith) (omega arith)
 
 meets-none : (b : ℕ) (e : Entry) → meets b 0 e ≡ false
 unfolding meets
@@ -97,44 +92,6 @@ run-free es b (suc k) =
     rw (run-free es (suc b) k) (not-or (any (holds b) es) (any (meets (suc b) k) es))
     ∙ ap not (sym (any-or (meets b (suc k)) (holds b) (meets (suc b) k) (meets-suc b k) es))
 
--- the end of the first region that reaches into them; b where none does
-unfoldable pub blockedTo : ℕ → ℕ → List Entry → ℕ
-blockedTo b k [] = b
-blockedTo b k (e ∷ es) = pick (meets b k e) (e .end) (blockedTo b k es)
-
-pub blocked-end : (b k : ℕ) (es : List Entry) → es ≡ [] → b ≡ blockedTo b k es
-unfolding blockedTo
-blocked-end b k es h = rw h
-
-module _ (b k : ℕ) (es : List Entry) (x : Entry) (xs : List Entry) (cons : es ≡ x ∷ xs) where
-  pub blocked-here : meets b k x ≡ true → x .end ≡ blockedTo b k es
-  unfolding blockedTo
-  blocked-here h = sym (rw cons (pick-true _ _ h))
-
-  pub blocked-next : meets b k x ≡ false → blockedTo b k xs ≡ blockedTo b k es
-  unfolding blockedTo
-  blocked-next h = rw cons (sym (pick-false _ _ h))
-
-blocked-none : (b k : ℕ) (es : List Entry) → blockedTo b k es ≤ b → any (meets b k) es ≡ false
-unfolding any blockedTo
-blocked-none b k [] h = refl
-blocked-none b k (e ∷ es) h = go (blocked-none b k es) (meets b k e) refl
-  where
-    go : (blockedTo b k es ≤ b → any (meets b k) es ≡ false) → (t : Bool) → meets b k e ≡ t → any (meets b k) (e ∷ es) ≡ false
-    go r true m = absurd (omega (arith, meets-says b k e m, pick-true (e .end) (blockedTo b k es) m))
-    go r false m = rw m (r (rw (pick-false (e .end) (blockedTo b k es) m) at h))
-
-blocked-some : (b k : ℕ) (es : List Entry) → b < blockedTo b k es → (v : ℕ) → b ≤ v → v < blockedTo b k es → any (meets v k) es ≡ true
-unfolding any blockedTo
-blocked-some b k [] h v l u = absurd (omega arith)
-blocked-some b k (e ∷ es) h v l u = go (blocked-some b k es) (meets b k e) refl
-  where
-    go : (b < blockedTo b k es → (v : ℕ) → b ≤ v → v < blockedTo b k es → any (meets v k) es ≡ true) → (t : Bool) → meets b k e ≡ t → any (meets v k) (e ∷ es) ≡ true
-    go r true m = or-left (meets v k e) (any (meets v k) es) (meets-on b k v e m l (rw (pick-true (e .end) (blockedTo b k es) m) at u))
-    go r false m =
-        let p = pick-false (e .end) (blockedTo b k es) m in
-        or-right (meets v k e) (any (meets v k) es) (r (rw p at h) v l (rw p at u))
-
 -- ---- the lowest run: the answer from a later start is the answer from the start
 module _ (es : List Entry) (k c : ℕ) where
   pub lowest-none : (b : ℕ) → c < b + k → lowestFree es k b c ≡ none
@@ -167,10 +124,3 @@ module _ (es : List Entry) (k c : ℕ) where
   lowest-skip b d l h =
       ap (λ (x : ℕ). lowestFree es k x c) (omega arith)
       ∙ skip (d - b) b (λ v m u. h v m (omega arith))
-
-  -- by what blocks the start
-  pub lowest-found : (b : ℕ) → b + k ≤ c → blockedTo b k es ≤ b → lowestFree es k b c ≡ some b
-  lowest-found b h z = lowest-here b h (run-free es b k ∙ ap not (blocked-none b k es z))
-
-  pub lowest-jump : (b : ℕ) → b < blockedTo b k es → lowestFree es k (blockedTo b k es) c ≡ lowestFree es k b c
-  lowest-jump b h = lowest-skip b (blockedTo b k es) (omega arith) (λ v l u. run-free es v k ∙ ap not (blocked-some b k es h v l u))

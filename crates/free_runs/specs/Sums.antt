@@ -98,7 +98,7 @@ held-fits s c g w b h =
     let es = entriesFrom s c in
     omega (
       arith,
-      held-most (geometryView g) (b .area) es (and-true (all (regionGood (geometryView g)) es) _ h .0),
+      held-most (geometryView g) (omega (arith, b .area)) es (and-true (all (regionGood (geometryView g)) es) _ h .0),
       few-entries (c .left) (c .left) (c .slot .0) (drop (c .at .0) s),
       w .inside .numbers,
     )

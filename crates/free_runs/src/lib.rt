@@ -1,18 +1,30 @@
 // Free runs, blocks held, and the blocks that a file needs.
 
+use geometry::Geometry;
 use index::Cursor;
 use index::Next;
+use regions::Gathered;
 use slots::Head;
 use units::Block;
+use units::Offset;
 ghost use mathlib.Core.Path.{_≡_};
+ghost use mathlib.Core.Bool.{true};
 ghost use mathlib.Core.List.{List};
-ghost use Prim.Native.Nat.{ℕ, _+_, _^_, _<_};
-ghost use Rattle.rules.specs.Regions.{heldBlocks, lowestFree, blocksNeeded};
+ghost use mathlib.Core.Option.{none, some};
+ghost use Prim.Native.Nat.{ℕ, _+_, _^_, _≤_, _<_};
+ghost use lib.ListN.{length, drop};
+ghost use lib.Dec.{leb};
+ghost use Rattle.rules.specs.Lists.{pick, all};
+ghost use Rattle.rules.specs.Index.{Entry};
+ghost use Rattle.rules.specs.Regions.{heldBlocks, regionGood, lowestFree, blocksNeeded};
 ghost use Rattle.rules.specs.Writing.{undeleted, leastEnd};
+ghost use Rattle.geometry.specs.View.{geometryView};
 ghost use Rattle.slots.specs.View.{headView};
 ghost use Rattle.index.specs.Steps.{Walks, entriesFrom};
+ghost use Rattle.ordering.specs.Regions.{freeFrom};
+ghost use Rattle.regions.specs.Bounds.{Bounded};
 ghost use Rattle.free_runs.specs.View.{freeView};
-ghost use Rattle.free_runs.specs.Runs.{meets, blockedTo};
+ghost use Rattle.free_runs.specs.InOrder.{HasRegions};
 ghost use Rattle.free_runs.specs.Sums.{fileBlocks, keptEnd};
 
 pub enum Free {
@@ -31,53 +43,76 @@ pub fn blocks_needed(len: u64, bytes: u64) -> u64
     bytes / len + 1
 }
 
-// Whether a region reaches into the k blocks from b on.
-fn reaches(h: Head, b: Block, k: u64) -> bool
-    requires { ⌜ b .0 + k < 2 ^ 64 ⌝ }
-    ensures { λ r. ⌜ ((s : List ℕ) → r ≡ meets (b .0) k (headView s h)) ⌝ }
-{
-    let first = b.later(h.start);
-    if !first.is_before(b.after(k)) {
-        return false;
-    }
-    first.is_before(h.end)
-}
+// ---- the lowest free run
 
-// The end of the first region that reaches into the k blocks from b on; b itself where none does.
-fn blocked_to(img: &[u8], from: Cursor, b: Block, k: u64) -> Block
-    requires { ⌜ Walks (now img) from × (b .0 + k < 2 ^ 64) ⌝ }
-    ensures { λ r. ⌜ r .0 ≡ blockedTo (b .0) k (entriesFrom (now (img .entry)) from) ⌝ }
-{
-    let mut c = from;
-    loop {
-        match index::next_entry(img, c) {
-            Next::End => return b,
-            Next::Found(e, rest) => {
-                if reaches(e, b, k) {
-                    return e.end;
-                }
-                c = rest;
-            }
-        }
-    }
-}
-
-// The lowest start, at or past `low`, of k free blocks that end at or below `ceiling`.
-// A region that reaches into k blocks leaves no start free before its own end, so the search goes on from there.
-pub fn lowest_free(img: &[u8], from: Cursor, k: u64, low: Block, ceiling: Block) -> Free
-    requires { ⌜ Walks (now img) from ⌝ }
-    ensures { λ r. ⌜ freeView r ≡ lowestFree (entriesFrom (now (img .entry)) from) k (low .0) (ceiling .0) ⌝ }
+// Where a search for k free blocks from `low` on stops, among the regions of the keys from place `from` on, in order.
+fn free_from(keys: &[u64], from: usize, k: u64, low: Block) -> Block
+    ensures { λ r. ⌜ r .0 ≡ freeFrom k (low .0) (drop from (now (keys .entry))) ⌝ }
 {
     let mut b = low;
-    while b.has_room(k, ceiling) {
-        let end = blocked_to(img, from, b, k);
-        if !b.is_before(end) {
-            return Free::At(b);
+    let mut i = from;
+    while i < keys.len() {
+        let key = keys[i];
+        if b.has_room(k, regions::key_start(key)) {
+            return b;
         }
-        b = end;
+        b = b.later(regions::key_end(key));
+        i += 1;
     }
-    Free::Nothing
+    b
 }
+
+// The answer of a search that stops at b: k blocks from there on, if they end at or below `ceiling`.
+fn free_below(b: Block, k: u64, ceiling: Block) -> Free
+    ensures { λ r. ⌜ freeView r ≡ pick (leb (b .0 + k) (ceiling .0)) (some (b .0)) none ⌝ }
+{
+    if !b.has_room(k, ceiling) {
+        return Free::Nothing;
+    }
+    Free::At(b)
+}
+
+// The lowest start among any entries that have the regions of the keys from place i on. The keys are put in order; tmp is scratch.
+fn free_among(
+    img: &[u8],
+    at: Offset,
+    keys: &mut [u64],
+    i: usize,
+    tmp: &mut [u64],
+    k: u64,
+    low: Block,
+    ceiling: Block,
+) -> Free
+    requires { ⌜ (i ≤ length (now keys)) × (length (now keys) ≤ length (now tmp)) × (at .0 ≤ 16_777_216) × (1 ≤ k) ⌝ }
+    ensures { λ r. ⌜ ((es : List Entry) → HasRegions es (drop i (now (keys .entry))) → freeView r ≡ lowestFree es k (low .0) (ceiling .0)) ⌝ }
+{
+    regions::order(img, at, keys, i, tmp);
+    let b = free_from(keys, i, k, low);
+    free_below(b, k, ceiling)
+}
+
+// The lowest start, at or past `low`, of k free blocks that end at or below `ceiling`. keys and tmp are scratch.
+// The regions are gathered and put in order, and the search passes over them once.
+pub fn lowest_free(
+    img: &[u8],
+    g: Geometry,
+    from: Cursor,
+    k: u64,
+    low: Block,
+    ceiling: Block,
+    keys: &mut [u64],
+    tmp: &mut [u64],
+) -> Free
+    requires { ⌜ Bounded g × Walks (now img) from × (all (regionGood (geometryView g)) (entriesFrom (now img) from) ≡ true) × (1 ≤ k) × (from .left ≤ length (now keys)) × (length (now keys) ≤ length (now tmp)) ⌝ }
+    ensures { λ r. ⌜ freeView r ≡ lowestFree (entriesFrom (now (img .entry)) from) k (low .0) (ceiling .0) ⌝ }
+{
+    match regions::gather(img, g, from, keys) {
+        Gathered::Bad => Free::Nothing,
+        Gathered::From(i) => free_among(img, from.at, keys, i, tmp, k, low, ceiling),
+    }
+}
+
+// ---- sums and ends over all entries
 
 // The blocks of a live or deleted file, 0 of any other entry.
 fn file_blocks(h: Head) -> u64

@@ -1,6 +1,6 @@
 -- From entry to entry: what a step of the walk says.
 use Prim.Native.Nat.{ℕ, _+_, _-_, _*_, _≤_, _<_}
-use mathlib.Core.Path.{_≡_, refl, sym, ap, _∙_}
+use mathlib.Core.Path.{_≡_, refl, sym, ap, ap₂, _∙_}
 use mathlib.Core.Bool.{true, false}
 use mathlib.Core.List.{List, [], _∷_}
 use native.Mathlib.Omega.{arith}
@@ -30,9 +30,12 @@ pub record Step (s : List ℕ) (c : Cursor) (h : Head) (d : Cursor) : Type 0 whe
   pub walks : Walks s d
   pub less : d .left < c .left
   pub head : HeadIn s h
+  pub view : headView s h ≡ headOf (h .slot .0) (drop (h .at .0) s)
   pub place : h .at .0 + 64 * c .slot .0 ≡ c .at .0 + 64 * h .slot .0  -- as far apart in bytes as in slots
   pub after : d .at .0 ≡ h .at .0 + 64 * h .slots
   pub number : d .slot .0 ≡ h .slot .0 + h .slots
+  pub ahead : c .slot .0 ≤ h .slot .0
+  pub ends : d .slot .0 + d .left ≡ c .slot .0 + c .left  -- both walks end at one slot
 
 -- what the answer of a step says
 unfoldable pub Told : List ℕ → Cursor → Next → Type 0
@@ -69,9 +72,12 @@ module _ (s : List ℕ) (c : Cursor) (walks : Walks s c) (more : 0 < c .left) wh
         };
         less = omega (arith, past .left, n, st .low);
         head = head-in s (c .at .0) k h view (c .left) st (i .fits) (i .short) place few;
+        view = view ∙ ap₂ (λ (j p : ℕ). headOf j (drop p s)) (sym number) (sym place);
         place = omega (arith, place, number);
         after = omega (arith, past .at, place);
         number = omega (arith, past .slot, number);
+        ahead = omega (arith, number);
+        ends = omega (arith, past .slot, past .left, slots-left t h view);
       }
 
 -- ---- a step over an unused slot
@@ -98,16 +104,19 @@ unfolding entriesOf
 no-more s c z = rw (z, walk-none (c .slot .0) (drop (c .at .0) s))
 
 -- the answer from further on is the answer from the start
-pub told-before : (s : List ℕ) (b c : Cursor) (r : Next) → entriesFrom s c ≡ entriesFrom s b → c .left ≤ b .left → c .at .0 + 64 * b .slot .0 ≡ b .at .0 + 64 * c .slot .0
+pub told-before : (s : List ℕ) (b c : Cursor) (r : Next) → entriesFrom s c ≡ entriesFrom s b → b .slot .0 ≤ c .slot .0 → c .slot .0 + c .left ≡ b .slot .0 + b .left → c .at .0 + 64 * b .slot .0 ≡ b .at .0 + 64 * c .slot .0
     → Told s c r → Told s b r
 unfolding Told
-told-before s b c End e l p t = sym e ∙ t
-told-before s b c (Found h d) e l p st = record {
+told-before s b c End e l n p t = sym e ∙ t
+told-before s b c (Found h d) e l n p st = record {
   entries = sym e ∙ st .entries;
   walks = st .walks;
   less = omega (arith, st .less);
   head = st .head;
+  view = st .view;
   place = omega (arith, st .place);
   after = st .after;
   number = st .number;
+  ahead = omega (arith, st .ahead);
+  ends = st .ends ∙ n;
 }

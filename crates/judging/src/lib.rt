@@ -21,10 +21,12 @@ fn judge_index(img: &[u8], g: Geometry) -> Judged
         return Judged::Refused(6);
     }
     let from = super_block::first_slot(img, g);
-    if !regions::regions_sound(img, g, from) {
+    let mut keys = [0u64; 4094];
+    let mut tmp = [0u64; 4094];
+    if !regions::regions_sound(img, g, from, &mut keys, &mut tmp) {
         return Judged::Refused(7);
     }
-    if !path_rules::paths_sound(img, from) {
+    if !path_rules::paths_sound(img, from, &mut keys, &mut tmp) {
         return Judged::Refused(8);
     }
     Judged::Good(g)

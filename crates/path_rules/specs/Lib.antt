@@ -1,1 +1,3 @@
 pub mod Turns
+pub mod Names
+pub mod Gathering

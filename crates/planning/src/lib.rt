@@ -16,9 +16,10 @@ ghost use Rattle.rules.specs.Fields.{signedOf};
 ghost use Rattle.rules.specs.SuperBlock.{growIndex};
 ghost use Rattle.rules.specs.SuperBlock.Laws.{GoodGeometry};
 ghost use Rattle.rules.specs.Index.{slotBytes};
+ghost use Rattle.rules.specs.Regions.{lowestFree};
 ghost use Rattle.rules.specs.Writing.{newSlots, newBlocks, grownPlace, placeRun, placeFile};
 ghost use Rattle.geometry.specs.View.{geometryView};
-ghost use Rattle.index.specs.Steps.{Walks, entriesFrom};
+ghost use Rattle.index.specs.Steps.{entriesFrom};
 ghost use Rattle.free_runs.specs.View.{freeView};
 ghost use Rattle.judging.specs.View.{Opened, volumeOf};
 ghost use Rattle.planning.specs.Places.{placeView, siteFrom, Begins};
@@ -58,16 +59,26 @@ fn place_run(img: &[u8], g: Geometry, from: Cursor, n: u64) -> RunPlace
 
 // ---- a place for the file
 
-// The lowest k free blocks below the ceiling block of g; no blocks stand at 0.
-fn place_file(img: &[u8], g: Geometry, from: Cursor, k: u64) -> Free
-    requires { ⌜ Walks (now img) from × (g .field ≤ 5) × (g .index ≤ length (now img)) ⌝ }
-    ensures { λ r. ⌜ freeView r ≡ placeFile (length (now (img .entry))) (geometryView g) (entriesFrom (now (img .entry)) from) k ⌝ }
+// The lowest k free blocks from block `low` up to `ceiling`, with scratch for the regions of all entries.
+fn free_blocks(img: &[u8], g: Geometry, from: Cursor, k: u64, low: Block, ceiling: Block) -> Free
+    requires { ⌜ Opened (now img) g × Begins (now img) g from × (1 ≤ k) ⌝ }
+    ensures { λ r. ⌜ freeView r ≡ lowestFree (entriesFrom (now (img .entry)) from) k (low .0) (ceiling .0) ⌝ }
+{
+    let mut keys = [0u64; 4094];
+    let mut tmp = [0u64; 4094];
+    free_runs::lowest_free(img, g, from, k, low, ceiling, &mut keys, &mut tmp)
+}
+
+// The lowest k free blocks below the ceiling block of `grown`, the geometry after any growth of the index; no blocks stand at 0.
+fn place_file(img: &[u8], g: Geometry, grown: Geometry, from: Cursor, k: u64) -> Free
+    requires { ⌜ Opened (now img) g × Begins (now img) g from × (grown .field ≤ 5) × (grown .index ≤ length (now img)) ⌝ }
+    ensures { λ r. ⌜ freeView r ≡ placeFile (length (now (img .entry))) (geometryView grown) (entriesFrom (now (img .entry)) from) k ⌝ }
 {
     if k == 0 {
         return Free::At(Block::at(0));
     }
-    let ceiling = g.ceiling(img.len() as u64);
-    free_runs::lowest_free(img, from, k, g.data_start(), ceiling)
+    let ceiling = grown.ceiling(img.len() as u64);
+    free_blocks(img, g, from, k, grown.data_start(), ceiling)
 }
 
 // ---- the plan
@@ -144,7 +155,7 @@ fn plan_places(
         RunPlace::Nothing => Plan::Refused(15),
         RunPlace::At(slot, grown) => {
             let blocks = blocks_for(g, file, bytes);
-            match place_file(img, grown, from, blocks) {
+            match place_file(img, g, grown, from, blocks) {
                 Free::Nothing => Plan::Refused(16),
                 Free::At(start) => Plan::At(site_at(g, grown, slot, slots, start, blocks, stamp)),
             }

@@ -2,7 +2,7 @@
 use Prim.Native.Nat.{ℕ, _+_, _*_, _≤_, _<_}
 use mathlib.Core.Path.{_≡_}
 use native.Mathlib.Omega.{arith}
-use native.Mathlib.Nat.{le-mul-of-pos-right, mul-le-mul}
+use native.Mathlib.Nat.{mul-le-mul}
 use mathlib.Core.Bool.{true, _&&_}
 use lib.Dec.{ltb, leb}
 use borrow.Author.Tests.{leb-true, ltb-true}
@@ -17,13 +17,13 @@ use Rattle.geometry.specs.View.{geometryView}
 -- no product of blocks and bytes per block passes 64 bits
 pub record Bounded (g : Geometry) : Type 0 where
   pub field : g .field ≤ 5
-  pub area : g .reserved + g .«data» ≤ 16_777_216
+  pub area : g .reserved + g .«data» ≤ 65_536
 
 pub good-bounded : (n : ℕ) (g : Geometry) → GoodGeometry n (geometryView g) → n ≤ 16_777_216 → Bounded g
 unfolding dataEnd
 good-bounded n g good h =
     let b = block-low n (geometryView g) good in
-    let d : dataEnd (geometryView g) ≤ dataEnd (geometryView g) * blockLength (geometryView g) = le-mul-of-pos-right (dataEnd (geometryView g)) (omega arith) in
+    let d : dataEnd (geometryView g) * 256 ≤ dataEnd (geometryView g) * blockLength (geometryView g) = mul-le-mul (omega arith) b in
     record { field = good .field-high; area = omega (arith, areas-fit n (geometryView g) good) }
 
 pub within-true : (g : Rules) (e : Entry) → withinData g e ≡ true → (e .start < e .end) × (e .end ≤ dataEnd g)

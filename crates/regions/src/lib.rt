@@ -4,17 +4,23 @@ use geometry::Geometry;
 use index::Cursor;
 use index::Next;
 use slots::Head;
+use sorting::put_before;
+use units::Block;
+use units::Offset;
 ghost use mathlib.Core.Path.{_≡_};
 ghost use mathlib.Core.Bool.{_&&_};
 ghost use mathlib.Core.List.{List};
+ghost use lib.ListN.{length, drop};
 ghost use lib.Dec.{eqb};
-ghost use Prim.Native.Nat.{ℕ};
-ghost use Rattle.rules.specs.Lists.{all, everyTwo};
+ghost use Prim.Native.Nat.{ℕ, _+_, _≤_, _<_};
+ghost use Rattle.rules.specs.Lists.{all, everyTwo, keepIf};
 ghost use Rattle.rules.specs.Regions.{withinData, fileRegionGood, regionGood, apart, regionsSound};
 ghost use Rattle.geometry.specs.View.{geometryView};
 ghost use Rattle.slots.specs.View.{headView};
 ghost use Rattle.index.specs.Steps.{Walks, entriesFrom};
+ghost use Rattle.ordering.specs.Regions.{regionKey, hasRegion, keyStart, keyEnd, inTurn};
 ghost use Rattle.regions.specs.Bounds.{Bounded};
+ghost use Rattle.regions.specs.Gathering.{Gathers, Ordered};
 
 // One block or more, in the data area.
 fn within_data(g: Geometry, h: Head) -> bool
@@ -82,6 +88,111 @@ pub fn regions_apart(a: Head, b: Head) -> bool
     b.end.is_at_or_before(a.start)
 }
 
+// ---- regions in order
+
+// The regions of entries, gathered from the end of a lent slice on: where they begin, unless one is not good.
+pub enum Gathered {
+    Bad,
+    From(usize),
+}
+
+// The start and the end of a region as one number.
+fn key_of(h: Head) -> u64
+    requires { ⌜ h .end .0 ≤ 65_536 × (h .start .0 < h .end .0) ⌝ }
+    ensures { λ r. ⌜ ((s : List ℕ) → r ≡ regionKey (headView s h)) ⌝ }
+{
+    (h.start.number() * 131_072 + h.end.number()) * 65_536
+}
+
+// The region of an entry, if it has one, put before place i.
+fn put_region(keys: &mut [u64], i: usize, h: Head) -> usize
+    requires { ⌜ (0 < i) × (i ≤ length (now keys)) × (h .end .0 ≤ 65_536) ⌝ }
+    ensures { λ r. ⌜ ((s : List ℕ) → drop r (now (keys .exit)) ≡ keepIf (hasRegion (headView s h)) (regionKey (headView s h)) (drop i (now (keys .entry)))) ⌝ }
+    ensures place { λ r. ⌜ (r ≤ i) × (i ≤ r + 1) ⌝ }
+{
+    if !h.start.is_before(h.end) {
+        return i;
+    }
+    let key = key_of(h);
+    put_before(keys, i, key)
+}
+
+// The regions of all entries from the cursor on, the last one first: those of an index that creates made are in order then.
+pub fn gather(img: &[u8], g: Geometry, from: Cursor, keys: &mut [u64]) -> Gathered
+    requires { ⌜ Bounded g × Walks (now img) from × (from .left ≤ length (now keys)) ⌝ }
+    ensures { λ r. ⌜ Gathers (now (img .entry)) g from (now (keys .exit)) r ⌝ }
+{
+    let mut c = from;
+    let mut i = keys.len();
+    loop {
+        match index::next_entry(img, c) {
+            Next::End => return Gathered::From(i),
+            Next::Found(e, rest) => {
+                if !region_good(g, e) {
+                    return Gathered::Bad;
+                }
+                i = put_region(keys, i, e);
+                c = rest;
+            }
+        }
+    }
+}
+
+// The block where the region of a key starts, and the block past it.
+pub fn key_start(key: u64) -> Block
+    ensures { λ r. ⌜ r .0 ≡ keyStart key ⌝ }
+{
+    Block::at(key / 65_536 / 131_072)
+}
+
+pub fn key_end(key: u64) -> Block
+    ensures { λ r. ⌜ r .0 ≡ keyEnd key ⌝ }
+{
+    Block::at(key / 65_536 % 131_072)
+}
+
+// Whether each region from place `from` on starts at or past the end of the one before it.
+fn in_turn(keys: &[u64], from: usize) -> bool
+    ensures { λ r. ⌜ r ≡ inTurn 0 (drop from (now (keys .entry))) ⌝ }
+{
+    let mut end = Block::at(0);
+    let mut i = from;
+    while i < keys.len() {
+        let key = keys[i];
+        if !end.is_at_or_before(key_start(key)) {
+            return false;
+        }
+        end = key_end(key);
+        i += 1;
+    }
+    true
+}
+
+// The regions from place i on put in order by their starts, if they do not stand in turn already; tmp is scratch. Whether they share no block.
+pub fn order(img: &[u8], at: Offset, keys: &mut [u64], i: usize, tmp: &mut [u64]) -> bool
+    requires { ⌜ (i ≤ length (now keys)) × (length (now keys) ≤ length (now tmp)) × (at .0 ≤ 16_777_216) ⌝ }
+    ensures { λ r. ⌜ Ordered (drop i (now (keys .entry))) (drop i (now (keys .exit))) r ⌝ }
+{
+    if in_turn(keys, i) {
+        return true;
+    }
+    sorting::sort_from(img, at, keys, i, tmp);
+    in_turn(keys, i)
+}
+
+// Whether the regions of the entries from the cursor on are sound. keys and tmp are scratch.
+pub fn regions_sound(img: &[u8], g: Geometry, from: Cursor, keys: &mut [u64], tmp: &mut [u64]) -> bool
+    requires { ⌜ Bounded g × Walks (now img) from × (from .left ≤ length (now keys)) × (length (now keys) ≤ length (now tmp)) ⌝ }
+    ensures { λ r. ⌜ r ≡ regionsSound (geometryView g) (entriesFrom (now (img .entry)) from) ⌝ }
+{
+    match gather(img, g, from, keys) {
+        Gathered::Bad => false,
+        Gathered::From(i) => order(img, from.at, keys, i, tmp),
+    }
+}
+
+// ---- the plain engine: each region against every later one
+
 // Whether every region from the cursor on is good.
 fn all_good(img: &[u8], g: Geometry, from: Cursor) -> bool
     requires { ⌜ Bounded g × Walks (now img) from ⌝ }
@@ -139,8 +250,8 @@ fn all_apart(img: &[u8], from: Cursor) -> bool
     }
 }
 
-// Whether the regions of the entries from the cursor on are sound.
-pub fn regions_sound(img: &[u8], g: Geometry, from: Cursor) -> bool
+// The same without scratch.
+pub fn plainly_sound(img: &[u8], g: Geometry, from: Cursor) -> bool
     requires { ⌜ Bounded g × Walks (now img) from ⌝ }
     ensures { λ r. ⌜ r ≡ regionsSound (geometryView g) (entriesFrom (now (img .entry)) from) ⌝ }
 {

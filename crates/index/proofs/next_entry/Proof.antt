@@ -10,13 +10,13 @@ use Rattle.index.proofs.next_entry.Statement.{statement}
 use Rattle.index.proofs.next_entry.Tie as tie
 
 abbrev Inv-loop : tie.InvT-loop
-Inv-loop img c₀ c = Walks img c × (entriesFrom img c ≡ entriesFrom img c₀) × (c .left ≤ c₀ .left) × (c .at .0 + 64 * c₀ .slot .0 ≡ c₀ .at .0 + 64 * c .slot .0)
+Inv-loop img c₀ c = Walks img c × (entriesFrom img c ≡ entriesFrom img c₀) × (c₀ .slot .0 ≤ c .slot .0) × (c .slot .0 + c .left ≡ c₀ .slot .0 + c₀ .left) × (c .at .0 + 64 * c₀ .slot .0 ≡ c₀ .at .0 + 64 * c .slot .0)
 
 abbrev μ-loop : tie.MeasureT-loop
 μ-loop img c₀ c = c .left
 
 loop-holds : tie.Need-loop-holds Inv-loop μ-loop
-loop-holds c = (c .before .pre, refl, omega arith, refl)
+loop-holds c = (c .before .pre, refl, omega arith, refl, refl)
 
 kind-at-requires : tie.Need-kind-at-requires Inv-loop μ-loop
 kind-at-requires c κs = omega (arith, c .before .before .loop .inv .0 .inside .fits, c .if1 .taken)
@@ -31,7 +31,7 @@ found-requires : tie.Need-found-requires Inv-loop μ-loop
 found-requires c κs = (c .before .before .before .before .before .loop .inv .0, c .before .before .before .if1 .taken, type-is (c .before) ∙ c .if2 .taken)
 
 returns : tie.Need-returns Inv-loop μ-loop
-returns c = let l = c .before .before .before .before .before .before .loop in told-before _ _ _ _ (l .inv .1) (l .inv .2) (l .inv .3) (c .found .ensures)
+returns c = let l = c .before .before .before .before .before .before .loop in told-before _ _ _ _ (l .inv .1) (l .inv .2) (l .inv .3) (l .inv .4) (c .found .ensures)
 
 past-requires : tie.Need-past-requires Inv-loop μ-loop
 past-requires c κs = let i = c .before .before .before .before .before .loop .inv .0 .inside in omega (arith, i .fits, i .short, i .numbers, c .before .before .before .if1 .taken)
@@ -44,7 +44,7 @@ loop-again c = let l = c .before .before .before .before .before .before .loop i
     let m = c .before .before .before .before .if1 .taken in
     let t = type-is (c .before .before) ∙ c .before .if2 .left in
     let p = c .past .ensures in
-    (skip-walks _ (l .c) (l .inv .0) m t _ p, skip-entries _ (l .c) (l .inv .0) m t _ p ∙ l .inv .1, omega (arith, l .inv .2, p .left), omega (arith, l .inv .3, p .at, p .slot))
+    (skip-walks _ (l .c) (l .inv .0) m t _ p, skip-entries _ (l .c) (l .inv .0) m t _ p ∙ l .inv .1, omega (arith, l .inv .2, p .slot), omega (arith, l .inv .3, p .slot, p .left), omega (arith, l .inv .4, p .at, p .slot))
 
 returns-2 : tie.Need-returns-2 Inv-loop μ-loop
 unfolding Told

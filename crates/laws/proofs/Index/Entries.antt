@@ -166,7 +166,7 @@ module _ (P : Entry → Type 0) (run : (left k : ℕ) (a : List ℕ) (e : Entry)
   of-followed (entry e) rest h r = (h, r (e .slots))
   of-followed (fault k) rest h r = tt
 
-  of-walk : (steps left k : ℕ) (a : List ℕ) → All P (entriesOf (walk steps left k a))
+  pub of-walk : (steps left k : ℕ) (a : List ℕ) → All P (entriesOf (walk steps left k a))
   unfolding walk entriesOf
   of-walk zero left k a = tt
   of-walk (suc steps) zero k a = tt

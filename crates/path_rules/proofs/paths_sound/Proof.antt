@@ -1,22 +1,27 @@
-use Rattle.path_rules.specs.Turns.{placed}
-use Rattle.rules.specs.Paths.{pathsSound}
+use mathlib.Core.Path.{_≡_, refl, sym, ap, _∙_}
+use native.Mathlib.Omega.{arith}
+use denote.Ref.{now}
 use borrow.Author.Needs.{needs}
+use Rattle.path_rules.specs.Gathering.{sound-at-once, sound-sorted}
 use Rattle.path_rules.proofs.paths_sound.Statement.{statement}
 use Rattle.path_rules.proofs.paths_sound.Tie as tie
 
-all-differ-requires : tie.Need-all-differ-requires
-all-differ-requires c κs = search needs
-
-all-placed-requires : tie.Need-all-placed-requires
-all-placed-requires c κs = search needs
-
 returns : tie.Need-returns
-unfolding pathsSound placed
-returns c = rw (← c .before .before .all-differ .ensures, c .before .if1 .taken) (c .all-placed .ensures)
+returns c = sound-at-once _ _ _ _ (c .before .before .before .before .before .gather .ensures) (sym (c .before .chained .ensures) ∙ c .if1 .taken)
 
 returns-2 : tie.Need-returns-2
-unfolding pathsSound
-returns-2 c = rw (← c .before .all-differ .ensures, c .if1 .left)
+returns-2 c = c .chained2 .ensures ∙ sound-sorted _ _ _ _ (c .before .before .before .before .before .before .before .before .before .before .before .before .before .before .gather .ensures) _ (c .before .before .before .before .before .before .sort-from .ensures)
 
 pub paths-sound-spec : {M : Type 1} → statement M
-paths-sound-spec = tie.close (tie.spec all-differ-requires all-placed-requires returns returns-2)
+paths-sound-spec =
+    tie.close
+    (tie.spec
+    (λ c κs. search needs)
+    (λ c κs. search needs)
+    (λ c. search needs)
+    returns
+    (λ c κs. search needs)
+    (λ c κs. search needs)
+    (λ c. search needs)
+    (λ c. search needs)
+    returns-2)

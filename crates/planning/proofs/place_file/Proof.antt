@@ -1,5 +1,6 @@
 use mathlib.Core.Path.{sym, ap, ap₂, _∙_}
 use mathlib.Core.Option.{some}
+use native.Mathlib.Omega.{arith}
 use Rattle.rules.specs.Regions.{lowestFree}
 use Rattle.planning.specs.Places.{place-none, place-blocks}
 use borrow.Author.Needs.{needs}
@@ -18,12 +19,13 @@ ceiling-requires c κs = search needs
 data-start-requires : tie.Need-data-start-requires
 data-start-requires c κs = search needs
 
-lowest-free-requires : tie.Need-lowest-free-requires
-lowest-free-requires c κs = search needs
+free-blocks-requires : tie.Need-free-blocks-requires
+free-blocks-requires c κs = let e = c .before .before in
+    (e .before .before .pre .0, e .before .before .pre .1, omega (arith, e .if1 .left))
 
 returns-2 : tie.Need-returns-2
 returns-2 c = let d = c .before in
-    c .lowest-free .ensures ∙ ap₂ (lowestFree _ _) (d .data-start .ensures) (d .before .ceiling .ensures)
+    c .free-blocks .ensures ∙ ap₂ (lowestFree _ _) (d .data-start .ensures) (d .before .ceiling .ensures)
     ∙ sym (place-blocks _ _ _ _ (d .before .before .if1 .left))
 
 pub place-file-spec : {M : Type 1} → statement M
@@ -34,5 +36,5 @@ place-file-spec =
     returns
     ceiling-requires
     data-start-requires
-    lowest-free-requires
+    free-blocks-requires
     returns-2)

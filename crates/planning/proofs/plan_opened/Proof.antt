@@ -93,7 +93,7 @@ plan-places-requires c κs = let e = c .before .before in
     let f = looked e in
     let o = begun f .pre in
     let a = admitted _ _ o _ (current (f .before .before .before)) (named (f .before)) (absent e) (nearest (c .before) ∙ not-false _ (c .if4 .left)) in
-    (o, (f .first-slot .ensures .0, f .first-slot .ensures .1), a)
+    (o, (f .first-slot .ensures .0, f .first-slot .ensures .1, f .first-slot .ensures .3), a)
 
 returns-5 : tie.Need-returns-5
 returns-5 c = search needs

@@ -6,7 +6,7 @@ use lib.ListN.{length}
 use Rattle.rules.specs.Writing.{New, newSlots, newBlocks, placeRun, placeFile}
 use Rattle.rules.specs.Refusals.{Volume, entries}
 use Rattle.geometry.specs.View.{geometryView}
-use Rattle.judging.specs.View.{volumeOf, opened-super, opened-walks, opened-entries}
+use Rattle.judging.specs.View.{volumeOf, opened-super, opened-entries}
 use Rattle.placing.specs.Site.{newOf}
 use Rattle.free_runs.specs.declared.Free.{Free}
 use Rattle.free_runs.specs.View.{freeView}
@@ -76,7 +76,7 @@ place-file-requires : tie.Need-place-file-requires
 place-file-requires c κs = let s = c .before .before in
     let x = first (sized s) in
     let z = run-grown _ _ (x .pre .0) _ _ (x .pre .2) _ (run-said s) .good in
-    (opened-walks _ _ (x .pre .0) _ (x .pre .1 .0) (x .pre .1 .1), z .field-high, z .index-fits)
+    (x .pre .0, x .pre .1, z .field-high, z .index-fits)
 
 enum-told-2 : tie.Need-enum-told-2
 enum-told-2 c = search needs

@@ -1,23 +1,41 @@
-use mathlib.Core.Path.{sym, _∙_}
-use borrow.Author.Tests.{not-true, not-false}
-use Rattle.rules.specs.Regions.{regionsSound}
+use Prim.Native.Nat.{_≤_}
+use mathlib.Core.Path.{_≡_, sym, _∙_}
+use native.Mathlib.Omega.{arith}
 use borrow.Author.Needs.{needs}
+use denote.Ref.{now}
+use Rattle.rules.specs.Regions.{regionsSound}
+use Rattle.regions.specs.Gathering.{gathers-bad, gathers-from, sound-ordered}
 use Rattle.regions.proofs.regions_sound.Statement.{statement}
 use Rattle.regions.proofs.regions_sound.Tie as tie
 
-all-good-requires : tie.Need-all-good-requires
-all-good-requires c κs = search needs
+order-requires : tie.Need-order-requires
+order-requires c κs =
+    let i = c .before .before .before in
+    let a = i .before .before .before .before .before .before .before .before .before in
+    (gathers-from _ _ _ _ _ (i .before .before .before .before .gather .ensures) _ (i .i .given .1) .1, omega arith, omega (arith, a .pre .1 .inside .fits, a .pre .1 .inside .short))
 
 returns : tie.Need-returns
 unfolding regionsSound
-returns c = rw (sym (c .before .all-good .ensures) ∙ not-true _ (c .if1 .taken))
-
-all-apart-requires : tie.Need-all-apart-requires
-all-apart-requires c κs = search needs
+returns c = rw (gathers-bad _ _ _ _ _ (c .before .before .before .before .gather .ensures) (c .enum-told .given .1))
 
 returns-2 : tie.Need-returns-2
-unfolding regionsSound
-returns-2 c = rw (sym (c .before .before .all-good .ensures) ∙ not-false _ (c .before .if1 .left)) (c .all-apart .ensures)
+returns-2 c =
+    let o = c .before .before .before .before in
+    let i = o .before .before .before .before in
+    let a = i .before .before .before .before .before .before .before .before .before in
+    let h = gathers-from _ _ _ _ _ (i .before .before .before .before .gather .ensures) _ (i .i .given .1) in
+    sound-ordered (now (a .args .img)) _ (a .pre .0) (a .args .from) (h .0) _ _ _ (h .2) (o .order .ensures)
 
 pub regions-sound-spec : {M : Type 1} → statement M
-regions-sound-spec = tie.close (tie.spec all-good-requires returns all-apart-requires returns-2)
+regions-sound-spec =
+    tie.close
+    (tie.spec
+    (λ c κs. search needs)
+    (λ c. search needs)
+    (λ c. search needs)
+    order-requires
+    (λ c. search needs)
+    returns
+    (λ c. search needs)
+    (λ c. search needs)
+    returns-2)

@@ -1,0 +1,115 @@
+//! The calls, timed on volumes of several looks and sizes: the programs one after the other, in one run. A line for each volume, size,
+//! call and program, times in milliseconds, fields parted by tabs.
+
+mod long_name;
+mod volumes;
+
+use crate::library::Library;
+use second::store::{Own, Store};
+use std::hint::black_box;
+use std::time::{Duration, Instant};
+use volumes::{Kind, Volume, BIG, BYTES, GONE, KINDS, MIB};
+
+const SIZES: [usize; 4] = [64, 256, 1024, 4094];
+/// A call is timed until so much time went by, and so often at least.
+const LEAST_ROUNDS: u32 = 3;
+const ROUNDS: u32 = 60;
+const ENOUGH: Duration = Duration::from_millis(60);
+
+/// What is timed: another commit's library, if one was linked, the library and the second program.
+const PROGRAMS: &[(&str, &dyn Store)] = &[
+    #[cfg(before)]
+    ("before", &crate::before::Library),
+    ("library", &Library),
+    ("second", &Own),
+];
+
+/// A call on an image, a path of its last slot and room for 1 MiB: whether it answered 0.
+type Call = fn(&dyn Store, &mut [u8], &[u8], &mut [u8]) -> bool;
+
+/// What each call is timed on: the volume, or one with an entry less for what a create adds.
+const CALLS: [(&str, Call); 8] = [
+    ("open", |store, image, _, out| black_box(store.open(image, out)).refusal == 0),
+    ("find", |store, image, path, _| black_box(store.find(image, path)).refusal == 0),
+    ("list", |store, image, _, out| black_box(store.list(image, 0, out)).refusal == 0),
+    ("read", |store, image, _, out| black_box(store.read(image, BIG, out)).refusal == 0),
+    ("create", |store, image, _, out| black_box(store.create_file(image, b"new", 1, out)).refusal == 0),
+    ("delete", |store, image, path, _| black_box(store.delete(image, path, 1)).refusal == 0),
+    ("reclaim", |store, image, _, _| black_box(store.reclaim(image, 1)).refusal == 0),
+    ("restore", |store, image, _, _| black_box(store.restore(image, GONE, 1)).refusal == 0),
+];
+
+pub fn run() -> Result<String, String> {
+    let mut text = "volume\tentries\tcall\tprogram\tms".to_string();
+    for kind in &KINDS {
+        for size in SIZES {
+            text += &timed(kind, kind.most(size))?;
+        }
+    }
+    let (mut from, mut to) = (vec![1; MIB], vec![0; MIB]);
+    let copy = best(ROUNDS, || {
+        black_box(&mut to).copy_from_slice(black_box(&mut from));
+        true
+    })?;
+    text += &format!("\nmemory\t\tcopy of 1 MiB\tmachine\t{:.4}", millis(copy));
+    Ok(text + "\n" + &long_name::run()?)
+}
+
+/// All calls on volumes of this look, and one pass over the index bytes.
+fn timed(kind: &Kind, entries: usize) -> Result<String, String> {
+    let full = kind.volume(entries)?;
+    let less = kind.volume(entries - 1)?;
+    let mut text = String::new();
+    let index = &full.image[BYTES - full.index..];
+    let pass = best(ROUNDS, || black_box(black_box(index).iter().try_fold(0_u64, |sum, byte| sum.checked_add((*byte).into()))).is_some())?;
+    text += &format!("\n{}\t{entries}\tpass\tmachine\t{:.4}", kind.name, millis(pass));
+    for (name, call) in CALLS {
+        let volume = if name == "create" { &less } else { &full };
+        for (program, store) in PROGRAMS {
+            let time = best_on(volume, *store, call).map_err(|error| format!("{} {entries} {name} {program}: {error}", kind.name))?;
+            text += &format!("\n{}\t{entries}\t{name}\t{program}\t{:.4}", kind.name, millis(time));
+        }
+    }
+    Ok(text)
+}
+
+/// The best time of a call on the volume, whose super-block and index are laid anew each time.
+fn best_on(volume: &Volume, store: &dyn Store, call: Call) -> Result<Duration, String> {
+    let mut image = volume.image.clone();
+    let mut out = vec![7; MIB];
+    let index = BYTES - volume.index - 64;
+    let mut least = Duration::MAX;
+    let mut spent = Duration::ZERO;
+    for round in 0..ROUNDS {
+        image[..512].copy_from_slice(&volume.image[..512]);
+        image[index..].copy_from_slice(&volume.image[index..]);
+        let start = Instant::now();
+        let done = call(store, black_box(&mut image), black_box(&volume.last), black_box(&mut out));
+        let time = start.elapsed();
+        if !done {
+            return Err("a call of the benchmark was refused".to_string());
+        }
+        least = least.min(time);
+        spent += time;
+        if LEAST_ROUNDS <= round && ENOUGH < spent {
+            break;
+        }
+    }
+    Ok(least)
+}
+
+fn best(rounds: u32, mut call: impl FnMut() -> bool) -> Result<Duration, String> {
+    let mut least = Duration::MAX;
+    for _ in 0..rounds {
+        let start = Instant::now();
+        if !call() {
+            return Err("a call of the benchmark was refused".to_string());
+        }
+        least = least.min(start.elapsed());
+    }
+    Ok(least)
+}
+
+fn millis(time: Duration) -> f64 {
+    time.as_secs_f64() * 1000.0
+}

@@ -1,0 +1,198 @@
+//! The volumes that the benchmark times: 16 MiB, blocks of 512, so many entries. All entries but two are made for the volume's sake; the
+//! two are a file of 1 MiB, to read, and a deleted file, to restore and to reclaim.
+
+use second::xorshift::Xorshift;
+
+pub const BYTES: usize = 16 << 20;
+pub const MIB: usize = 1 << 20;
+const BLOCK: usize = 512;
+const SLOT: usize = 64;
+const DIRECTORY: u8 = 0x11;
+const FILE: u8 = 0x12;
+const DELETED_FILE: u8 = 0x1A;
+/// The parts of a path that is 25 deep, but its last.
+const CHAIN: usize = 24;
+/// What names of two slots have alike.
+const ALIKE: &str = "the session of a reader at terminal 7 of the reading room on the first floor, number ";
+/// Names before all others, so that they are in order where the others are.
+pub const BIG: &[u8] = b"a big file";
+pub const GONE: &[u8] = b"a gone file";
+/// The block past the two.
+const TWO_END: usize = 1 + MIB / BLOCK + 1;
+/// The most slots between the two ends of an index.
+const MOST_SLOTS: usize = 4094;
+
+/// An entry to be laid down; a directory has no blocks.
+#[derive(Clone)]
+struct Entry {
+    kind: u8,
+    path: Vec<u8>,
+    start: usize,
+    bytes: usize,
+}
+
+/// How a volume looks; `entries` are the most that an index of one-slot names has.
+pub struct Kind {
+    pub name: &'static str,
+    entries: fn(usize) -> Vec<Entry>,
+    slots: usize,
+}
+
+pub const KINDS: [Kind; 7] = [
+    Kind { name: "in order", entries: in_order, slots: 1 },
+    Kind { name: "shuffled", entries: shuffled, slots: 1 },
+    Kind { name: "long names, shuffled", entries: long_shuffled, slots: 2 },
+    Kind { name: "25 deep, the chain last", entries: deep, slots: 1 },
+    Kind { name: "every second block", entries: every_second, slots: 1 },
+    Kind { name: "25 deep, shuffled", entries: deep_shuffled, slots: 1 },
+    Kind { name: "worst", entries: worst, slots: 1 },
+];
+
+/// A volume and a path of its last slot.
+pub struct Volume {
+    pub image: Vec<u8>,
+    pub last: Vec<u8>,
+    pub index: usize,
+}
+
+impl Kind {
+    /// As many entries as were asked for, if there is room for them.
+    pub fn most(&self, entries: usize) -> usize {
+        entries.min(MOST_SLOTS / self.slots)
+    }
+
+    /// In slot order.
+    pub fn volume(&self, entries: usize) -> Result<Volume, String> {
+        let entries = (self.entries)(entries);
+        let timed = |entry: &&Entry| entry.kind == FILE && entry.path != BIG || entry.kind == DIRECTORY && !is_above(entry, &entries);
+        let last = entries.iter().rfind(timed);
+        let last = last.map(|entry| entry.path.clone()).ok_or("a volume without entries")?;
+        let (image, index) = laid(&entries)?;
+        Ok(Volume { image, last, index })
+    }
+}
+
+fn is_above(directory: &Entry, entries: &[Entry]) -> bool {
+    let prefix = [directory.path.as_slice(), b"/"].concat();
+    entries.iter().any(|entry| entry.path.starts_with(&prefix))
+}
+
+/// The two, and behind them files of a byte, each `step` blocks behind the one before it.
+fn files(names: impl Iterator<Item = Vec<u8>>, step: usize) -> Vec<Entry> {
+    let mut entries = two();
+    entries.extend(names.enumerate().map(|(place, path)| Entry { kind: FILE, path, start: TWO_END + step * place, bytes: 1 }));
+    entries
+}
+
+fn two() -> Vec<Entry> {
+    vec![
+        Entry { kind: FILE, path: BIG.to_vec(), start: 1, bytes: MIB },
+        Entry { kind: DELETED_FILE, path: GONE.to_vec(), start: TWO_END - 1, bytes: 1 },
+    ]
+}
+
+fn numbered(entries: usize) -> impl Iterator<Item = Vec<u8>> {
+    (0..entries - 2).map(|place| format!("session-{place:05}").into_bytes())
+}
+
+/// A create puts its run before the others, and its blocks behind theirs.
+fn in_order(entries: usize) -> Vec<Entry> {
+    let mut entries = files(numbered(entries), 1);
+    entries.reverse();
+    entries
+}
+
+fn shuffled(entries: usize) -> Vec<Entry> {
+    shuffle(files(numbered(entries), 1))
+}
+
+fn long_shuffled(entries: usize) -> Vec<Entry> {
+    shuffle(files((0..entries - 2).map(|place| format!("{ALIKE}{place:05}").into_bytes()), 1))
+}
+
+fn every_second(entries: usize) -> Vec<Entry> {
+    let mut entries = files(numbered(entries), 2);
+    entries.reverse();
+    entries
+}
+
+fn deep(entries: usize) -> Vec<Entry> {
+    let directory = |path: String| Entry { kind: DIRECTORY, path: path.into_bytes(), start: 0, bytes: 0 };
+    let mut all = two();
+    all.extend((1..=CHAIN).map(|parts| directory(["d"; CHAIN][..parts].join("/"))));
+    let above = ["d"; CHAIN].join("/");
+    all.extend((0..entries - 2 - CHAIN).map(|place| directory(format!("{above}/{place:04x}"))));
+    all.reverse();
+    all
+}
+
+fn deep_shuffled(entries: usize) -> Vec<Entry> {
+    shuffle(deep(entries))
+}
+
+/// Names that fill their slot, in many directories, shuffled.
+fn worst(entries: usize) -> Vec<Entry> {
+    let directory = |path: String| Entry { kind: DIRECTORY, path: path.into_bytes(), start: 0, bytes: 0 };
+    let many = (entries - 2) / 3;
+    let room = |place: usize| format!("a room of the third floor by the number {place:05}");
+    let mut all = two();
+    all.extend((0..many).map(|place| directory(room(place))));
+    all.extend((0..entries - 2 - many).map(|place| directory(format!("{}/{:x}", room(place % many), place / many))));
+    shuffle(all)
+}
+
+/// Slots and regions, each in an order of its own.
+fn shuffle(mut entries: Vec<Entry>) -> Vec<Entry> {
+    let mut random = Xorshift::new(7);
+    let mut small: Vec<usize> = entries.iter().filter(|entry| entry.bytes == 1 && entry.kind == FILE).map(|entry| entry.start).collect();
+    permute(&mut small, &mut random);
+    for entry in entries.iter_mut().filter(|entry| entry.bytes == 1 && entry.kind == FILE) {
+        entry.start = small.pop().unwrap_or(entry.start);
+    }
+    permute(&mut entries, &mut random);
+    entries
+}
+
+fn permute<T>(list: &mut [T], random: &mut Xorshift) {
+    for place in (1..list.len()).rev() {
+        list.swap(place, random.below(place as u64 + 1) as usize);
+    }
+}
+
+/// The image whose index has these entries in their slots, one behind the other, and its index in bytes.
+fn laid(entries: &[Entry]) -> Result<(Vec<u8>, usize), String> {
+    let mut image = vec![0; BYTES];
+    if second::format(&mut image, BLOCK as u64, 1, b"BENCH", 0).refusal != 0 {
+        return Err("format was refused".to_string());
+    }
+    let runs: Vec<Vec<u8>> = entries.iter().map(run).collect();
+    let index = 2 * SLOT + runs.iter().map(Vec::len).sum::<usize>();
+    let end = entries.iter().map(|entry| entry.start + entry.bytes.div_ceil(BLOCK)).max().unwrap_or(1);
+    image[0x19C..0x1A4].copy_from_slice(&(end as u64 - 1).to_le_bytes());
+    image[0x1A4..0x1AC].copy_from_slice(&(index as u64).to_le_bytes());
+    image[BYTES - 2 * SLOT] = 0;
+    image[BYTES - index] = 0x02;
+    let mut at = BYTES - index + SLOT;
+    for run in runs {
+        image[at..at + run.len()].copy_from_slice(&run);
+        at += run.len();
+    }
+    Ok((image, index))
+}
+
+/// The slots of an entry.
+fn run(entry: &Entry) -> Vec<u8> {
+    let name = if entry.kind == DIRECTORY { 10 } else { 34 };
+    let slots = (name + entry.path.len() + 1).div_ceil(SLOT);
+    let mut run = vec![0; slots * SLOT];
+    run[0] = entry.kind;
+    run[1] = slots as u8 - 1;
+    if entry.kind != DIRECTORY {
+        let end = entry.start + entry.bytes.div_ceil(BLOCK);
+        run[10..18].copy_from_slice(&(entry.start as u64).to_le_bytes());
+        run[18..26].copy_from_slice(&(end as u64).to_le_bytes());
+        run[26..34].copy_from_slice(&(entry.bytes as u64).to_le_bytes());
+    }
+    run[name..name + entry.path.len()].copy_from_slice(&entry.path);
+    run
+}

@@ -1,0 +1,27 @@
+use mathlib.Core.Path.{_≡_, refl, sym, ap, _∙_}
+use denote.Ref.{now}
+use borrow.Author.Needs.{needs}
+use Rattle.path_rules.specs.Gathering.{key-path, key-kind, read-follows}
+use Rattle.path_rules.proofs.may_follow.Statement.{statement}
+use Rattle.path_rules.proofs.may_follow.Tie as tie
+
+returns : tie.Need-returns
+returns c =
+    let n = c .before in
+    let b = n .before .before in
+    let s = b .before .before .before .before in
+    c .name-follows .ensures
+    ∙ read-follows _ _ _ _ _ (b .byte-at .ensures ∙ key-kind (now (s .args .img)) (s .args .from) (s .args .a) _ refl _ (b .before .index .ensures ∙ b .before .before .after-slots .ensures))
+    (key-path (now (s .args .img)) (s .args .from) (s .args .a) _ refl _ (n .before .name-of .ensures)) (key-path (now (s .args .img)) (s .args .from) (s .args .b) _ refl _ (n .name-of2 .ensures))
+
+pub may-follow-spec : {M : Type 1} → statement M
+may-follow-spec =
+    tie.close
+    (tie.spec
+    (λ c κs. search needs)
+    (λ c κs. search needs)
+    (λ c κs. search needs)
+    (λ c κs. search needs)
+    (λ c κs. search needs)
+    (λ c κs. search needs)
+    returns)

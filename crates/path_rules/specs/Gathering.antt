@@ -1,0 +1,206 @@
+-- Live entries by their keys: gathered, put in order, and judged by their neighbours.
+use Prim.Native.Nat.{ℕ, suc, _+_, _-_, _*_, _/_, _%_, _≤_, _<_}
+use mathlib.Core.Path.{_≡_, refl, sym, ap, ap₂, _∙_}
+use mathlib.Core.Bool.{Bool, true, false, _||_}
+use mathlib.Core.List.{List, [], _∷_, _++_, map, append-assoc, append-nil}
+use native.Mathlib.Omega.{arith}
+use lib.ListN.{length, getD, drop, drop-of-length-le}
+use lib.Seq.{drop-length, drop-cons}
+use lib.Dec.{eqb}
+use borrow.Author.Tests.{eq-eqb}
+use Rattle.rules.specs.Lists.{pick, only, keepIf, All, Pairs, Perm, thus}
+use Rattle.rules.specs.Lists.Laws.{clash, pick-true}
+use Rattle.rules.specs.Fields.{byteAt, upToZero}
+use Rattle.rules.specs.Index.{Entry, entryAt, liveType, runType, typeDirectory, nameField, slotBytes}
+use Rattle.rules.specs.Index.Items.{headOf, head-run, type-drop}
+use Rattle.rules.specs.Paths.{isLive, pathsSound}
+use Rattle.rules.specs.Paths.Laws.{live-run}
+use Rattle.laws.proofs.Lists.Perms.{perm-all, perm-map, perm-of}
+use Rattle.ordering.specs.Order.{turned, Sorted}
+use Rattle.ordering.specs.Turning.{turned-perm}
+use Rattle.ordering.specs.Keys.{numberOf, placeOf, keyPath, keyLe}
+use Rattle.ordering.specs.Paths.{pathLe, noSlash, follows, entryFollows, chainFrom, chain}
+use Rattle.ordering.specs.Chains.{chain-sound, chain-decides}
+use Rattle.slots.specs.declared.Head.{Head}
+use Rattle.slots.specs.View.{headView}
+use Rattle.index.specs.declared.Cursor.{Cursor}
+use Rattle.index.specs.Steps.{Walks, Step, entriesFrom}
+
+-- the entry of the run at a key's place, in slots behind a cursor
+unfoldable pub keyEntry : List ℕ → Cursor → ℕ → Entry
+keyEntry s c k = entryAt (c .slot .0 + placeOf k) (drop (c .at .0 + slotBytes * placeOf k) s)
+
+-- the keys from place i on are of the live entries, the last one first
+pub record Gathered (s : List ℕ) (c : Cursor) (keys : List ℕ) (i : ℕ) : Type 0 where
+  pub inside : i ≤ length keys
+  pub places : All (λ k. k < 65_536) (drop i keys)
+  pub entries : map (keyEntry s c) (drop i keys) ≡ turned (only isLive (entriesFrom s c))
+
+-- ---- the loop: what is gathered, behind what is to come
+pub record Gathering (s : List ℕ) (from : Cursor) (keys : List ℕ) (c : Cursor) (i : ℕ) : Type 0 where
+  pub walks : Walks s c
+  pub room : c .left ≤ i
+  pub within : i ≤ length keys
+  pub ahead : from .slot .0 ≤ c .slot .0
+  pub ends : c .slot .0 + c .left ≡ from .slot .0 + from .left
+  pub place : c .at .0 + 64 * from .slot .0 ≡ from .at .0 + 64 * c .slot .0
+  pub small : All (λ k. k < 65_536) (drop i keys)
+  pub gathered : turned (only isLive (entriesFrom s c)) ++ map (keyEntry s from) (drop i keys) ≡ turned (only isLive (entriesFrom s from))
+
+-- the entry that was found, by its place
+module _ (s : List ℕ) (c : Cursor) (h : Head) (d : Cursor) (step : Step s c h d) where
+  live-entry : liveType (h .kind) ≡ true → headView s h ≡ entryAt (h .slot .0) (drop (h .at .0) s)
+  live-entry t =
+      let r : runType (h .kind) ≡ true = live-run (h .kind) t in
+      step .view ∙ head-run (h .slot .0) (drop (h .at .0) s) (ap runType (type-drop s (h .at .0) ∙ sym (step .head .type r)) ∙ r)
+
+  found-entry : (from : Cursor) (k : ℕ) → k < 65_536 → h .slot .0 ≡ from .slot .0 + k → h .at .0 ≡ from .at .0 + 64 * k → liveType (h .kind) ≡ true
+      → keyEntry s from k ≡ headView s h
+  unfolding keyEntry placeOf
+  found-entry from k l a b t =
+      let e : k % 65_536 ≡ k = omega arith in
+      let m : from .slot .0 + k % 65_536 ≡ h .slot .0 = omega (arith, a, e) in
+      let p : from .at .0 + 64 * (k % 65_536) ≡ h .at .0 = omega (arith, b, e) in
+      ap₂ (λ (j q : ℕ). entryAt j (drop q s)) m p ∙ sym (live-entry t)
+
+  found-kept : (from : Cursor) (k : ℕ) → k < 65_536 → h .slot .0 ≡ from .slot .0 + k → h .at .0 ≡ from .at .0 + 64 * k → (ks : List ℕ)
+      → map (keyEntry s from) (keepIf (liveType (h .kind)) k ks) ≡ keepIf (isLive (headView s h)) (headView s h) (map (keyEntry s from) ks)
+  unfolding isLive headView keepIf
+  found-kept from k l a b ks = by (liveType (h .kind)) refl
+    where
+      by : (t : Bool) → liveType (h .kind) ≡ t → map (keyEntry s from) (keepIf t k ks) ≡ keepIf t (headView s h) (map (keyEntry s from) ks)
+      by true e = ap (λ (x : Entry). x ∷ map (keyEntry s from) ks) (found-entry from k l a b e)
+      by false e = refl
+
+small-kept : (t : Bool) (k : ℕ) (ks : List ℕ) → k < 65_536 → All (λ x. x < 65_536) ks → All (λ x. x < 65_536) (keepIf t k ks)
+unfolding keepIf
+small-kept true k ks h all = (h, all)
+small-kept false k ks h all = all
+
+-- one more
+entries-next : (x : Entry) (xs ys : List Entry) → turned (only isLive xs) ++ keepIf (isLive x) x ys ≡ turned (only isLive (x ∷ xs)) ++ ys
+unfolding only turned keepIf
+entries-next x xs ys = by (isLive x)
+  where
+    by : (t : Bool) → turned (only isLive xs) ++ keepIf t x ys ≡ turned (keepIf t x (only isLive xs)) ++ ys
+    by true = sym (append-assoc (turned (only isLive xs)) (x ∷ []) ys)
+    by false = refl
+
+module _ (s : List ℕ) (from : Cursor) where
+  pub gather-none : (keys : List ℕ) → Walks s from → from .left ≤ length keys → Gathering s from keys from (length keys)
+  gather-none keys w l = record {
+    walks = w;
+    room = l;
+    within = omega arith;
+    ahead = omega arith;
+    ends = refl;
+    place = refl;
+    small = rw (drop-length keys) tt;
+    gathered = ap (λ (ks : List ℕ). turned (only isLive (entriesFrom s from)) ++ map (keyEntry s from) ks) (drop-length keys) ∙ append-nil (turned (only isLive (entriesFrom s from)));
+  }
+
+  module _ (keys : List ℕ) (c : Cursor) (i : ℕ) (at : Gathering s from keys c i) where
+    pub gather-end : entriesFrom s c ≡ [] → Gathered s from keys i
+    unfolding only turned
+    gather-end e = record {
+      inside = at .within;
+      places = at .small;
+      entries = ap (λ (es : List Entry). turned (only isLive es) ++ map (keyEntry s from) (drop i keys)) (sym e) ∙ at .gathered;
+    }
+
+    module _ (h : Head) (d : Cursor) (step : Step s c h d) (few : from .left ≤ 65_536) where
+      pub key-small : h .slot .0 - from .slot .0 < 65_536
+      key-small = omega (arith, step .number, step .ends, at .ends, step .head .low)
+
+      pub gather-next : (keys′ : List ℕ) (j : ℕ) → length keys′ ≡ length keys
+          → drop j keys′ ≡ keepIf (liveType (h .kind)) (h .slot .0 - from .slot .0) (drop i keys)
+          → j ≤ i → i ≤ j + 1 → Gathering s from keys′ d j
+      gather-next keys′ j l p less more = record {
+        walks = step .walks;
+        room = omega (arith, step .less, at .room);
+        within = omega (arith, at .within);
+        ahead = omega (arith, step .number, step .ahead, at .ahead);
+        ends = step .ends ∙ at .ends;
+        place = omega (arith, step .place, step .after, step .number, at .place);
+        small = rw p (small-kept (liveType (h .kind)) (h .slot .0 - from .slot .0) (drop i keys) key-small (at .small));
+        gathered =
+          ap (λ (ks : List ℕ). turned (only isLive (entriesFrom s d)) ++ map (keyEntry s from) ks) p
+          ∙ ap (λ (ys : List Entry). turned (only isLive (entriesFrom s d)) ++ ys) (found-kept s c h d step from (h .slot .0 - from .slot .0) key-small (omega (arith, step .ahead, at .ahead)) (omega (arith, step .ahead, at .ahead, step .place, at .place)) (drop i keys))
+          ∙ entries-next (headView s h) (entriesFrom s d) (map (keyEntry s from) (drop i keys))
+          ∙ ap (λ (es : List Entry). turned (only isLive es) ++ map (keyEntry s from) (drop i keys)) (sym (step .entries))
+          ∙ at .gathered;
+      }
+
+-- ---- THE JUDGEMENT
+module _ (s : List ℕ) (c : Cursor) (keys : List ℕ) (i : ℕ) (g : Gathered s c keys i) where
+  gathered-perm : Perm (only isLive (entriesFrom s c)) (map (keyEntry s c) (drop i keys))
+  gathered-perm = rw (g .entries) (turned-perm (only isLive (entriesFrom s c)))
+
+  pub sound-at-once : chain (map (keyEntry s c) (drop i keys)) ≡ true → true ≡ pathsSound (entriesFrom s c)
+  sound-at-once e = sym (chain-sound (entriesFrom s c) (map (keyEntry s c) (drop i keys)) gathered-perm e)
+
+  key-path-le : (a b : ℕ) → a < 65_536 → b < 65_536 → keyLe s (c .at .0) a b ≡ true → pathLe (keyEntry s c a .path) (keyEntry s c b .path) ≡ true
+  unfolding keyLe numberOf keyEntry entryAt keyPath
+  key-path-le a b l m h =
+      let e : a / 65_536 ≡ b / 65_536 = omega arith in
+      sym (pick-true {b = eqb (a / 65_536) (b / 65_536)} _ _ (eq-eqb _ _ e)) ∙ h
+
+  path-all : (a : ℕ) → a < 65_536 → (ks : List ℕ) → All (λ k. k < 65_536) ks → All (λ b. keyLe s (c .at .0) a b ≡ true) ks
+      → All (λ f. pathLe (keyEntry s c a .path) (f .path) ≡ true) (map (keyEntry s c) ks)
+  path-all a l [] small p = tt
+  path-all a l (b ∷ ks) small p = (key-path-le a b l (small .0) (p .0), path-all a l ks (small .1) (p .1))
+
+  path-pairs : (ks : List ℕ) → All (λ k. k < 65_536) ks → Pairs (λ a b. keyLe s (c .at .0) a b ≡ true) ks → Pairs (λ e f. pathLe (e .path) (f .path) ≡ true) (map (keyEntry s c) ks)
+  path-pairs [] small p = tt
+  path-pairs (a ∷ ks) small p = (path-all a (small .0) ks (small .1) (p .0), path-pairs ks (small .1) (p .1))
+
+  pub sound-sorted : (after : List ℕ) → Sorted (keyLe s (c .at .0)) (drop i keys) after → chain (map (keyEntry s c) after) ≡ pathsSound (entriesFrom s c)
+  sound-sorted after sorted =
+      sym (chain-decides (entriesFrom s c) (map (keyEntry s c) after) (thus gathered-perm (perm-map (keyEntry s c) (sorted .same)))
+      (path-pairs after (perm-all _ (sorted .same) (g .places)) (sorted .ascends)))
+
+-- ---- the loop that goes from neighbour to neighbour
+module _ (f : ℕ → Entry) (keys : List ℕ) (i : ℕ) where
+  pub chain-end : (e : Entry) → length keys ≤ i → true ≡ chainFrom e (map f (drop i keys))
+  unfolding chainFrom
+  chain-end e h = rw (drop-of-length-le keys {i = i} h)
+
+  pub chain-nothing : length keys ≤ i → true ≡ chain (map f (drop i keys))
+  unfolding chain
+  chain-nothing h = rw (drop-of-length-le keys {i = i} h)
+
+  module _ (k : ℕ) (more : i < length keys) (here : k ≡ getD keys i 0) where
+    key-here : drop i keys ≡ k ∷ drop (i + 1) keys
+    key-here =
+        let e : suc i ≡ i + 1 = omega arith in
+        drop-cons keys i 0 more ∙ ap₂ (λ (x j : ℕ). x ∷ drop j keys) (sym here) e
+
+    pub chain-stop : (e : Entry) → entryFollows e (f k) ≡ false → false ≡ chainFrom e (map f (drop i keys))
+    unfolding chainFrom
+    chain-stop e h = rw (key-here, h)
+
+    pub chain-next : (e : Entry) → entryFollows e (f k) ≡ true → chainFrom (f k) (map f (drop (i + 1) keys)) ≡ chainFrom e (map f (drop i keys))
+    unfolding chainFrom
+    chain-next e h = rw (key-here, h)
+
+    pub chain-above : noSlash (f k .path) ≡ false → false ≡ chain (map f (drop i keys))
+    unfolding chain
+    chain-above h = rw (key-here, h)
+
+    pub chain-first : noSlash (f k .path) ≡ true → chainFrom (f k) (map f (drop (i + 1) keys)) ≡ chain (map f (drop i keys))
+    unfolding chain
+    chain-first h = rw (key-here, h)
+
+-- what is read of an entry at its key's place
+module _ (s : List ℕ) (c : Cursor) (k p : ℕ) (place : p ≡ k % 65_536) where
+  pub key-path : (name : List ℕ) → name ≡ nameField (drop (c .at .0 + 64 * p) s) → upToZero name ≡ keyEntry s c k .path
+  unfolding keyEntry entryAt placeOf
+  key-path name e = ap upToZero e ∙ rw place
+
+  pub key-kind : (at : ℕ) → at ≡ c .at .0 + 64 * p → getD s at 0 ≡ keyEntry s c k .kind
+  unfolding keyEntry entryAt placeOf
+  key-kind at e = rw (e, place) (sym (type-drop s (c .at .0 + 64 * (k % 65_536))))
+
+pub read-follows : (x : ℕ) (p q : List ℕ) (e f : Entry) → x ≡ e .kind → p ≡ e .path → q ≡ f .path → follows (eqb x typeDirectory) p q ≡ entryFollows e f
+unfolding entryFollows
+read-follows x p q e f a b c = rw (a, b, c)
