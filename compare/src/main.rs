@@ -1,6 +1,6 @@
 //! `compare SEED CALLS [KIND]`: a generated script on both stores, line by line. The first difference ends the run and prints a
-//! script that shows it; without one it says how often restore gave each answer. `compare bench`: open and find on full 16 MiB
-//! volumes, all programs in one run. `compare names`: the name rule by both programs and by Rust's own reading of UTF-8, on every
+//! script that shows it; without one it says how often restore gave each answer. `compare bench`: the calls on 16 MiB volumes of
+//! several looks and sizes (those alone whose names begin with VOLUMES, if it is given), all programs in one run. `compare names`: the name rule by both programs and by Rust's own reading of UTF-8, on every
 //! short string.
 
 #[cfg(before)]
@@ -19,14 +19,15 @@ use second::selftest::restore_table;
 use std::process::ExitCode;
 
 const USAGE: &str = "usage: compare SEED CALLS [history|damage|built|edges|args|names|restore|tails]
-       compare bench
+       compare bench [VOLUMES]
        compare names";
 
 fn main() -> ExitCode {
     let words: Vec<String> = std::env::args().skip(1).collect();
     let words: Vec<&str> = words.iter().map(String::as_str).collect();
     let outcome = match words.as_slice() {
-        ["bench"] => bench::run(),
+        ["bench"] => bench::run(""),
+        ["bench", volumes] => bench::run(volumes),
         ["names"] => names::run(),
         [seed, calls] => compare(seed, calls, None),
         [seed, calls, kind] => compare(seed, calls, Some(kind)),

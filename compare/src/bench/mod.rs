@@ -39,9 +39,10 @@ const CALLS: [(&str, Call); 8] = [
     ("restore", |store, image, _, _| black_box(store.restore(image, GONE, 1)).refusal == 0),
 ];
 
-pub fn run() -> Result<String, String> {
+/// On the volumes whose names begin so.
+pub fn run(volumes: &str) -> Result<String, String> {
     let mut text = "volume\tentries\tcall\tprogram\tms".to_string();
-    for kind in &KINDS {
+    for kind in KINDS.iter().filter(|kind| kind.name.starts_with(volumes)) {
         for size in SIZES {
             text += &timed(kind, kind.most(size))?;
         }

@@ -1,4 +1,4 @@
-// Little-endian fields of every width, read and written by one loop each, and the checksum.
+// Little-endian fields of every width, read and written by one loop each, those of four and eight bytes read at once, and the checksum.
 
 use units::Offset;
 ghost use mathlib.Core.Path.{_≡_};
@@ -28,18 +28,27 @@ pub fn le_at(s: &[u8], at: Offset, w: usize) -> u64
     r
 }
 
+// Four bytes written out: the machine reads them at once then.
+fn le4(s: &[u8], i: usize) -> u64
+    requires { ⌜ i + 4 ≤ length (now s) ⌝ }
+    ensures { λ r. ⌜ (r ≡ le 4 (now (s .entry)) i) × (r < 2 ^ 32) ⌝ }
+{
+    wide(s[i]) + 256 * wide(s[i + 1]) + 65_536 * wide(s[i + 2]) + 16_777_216 * wide(s[i + 3])
+}
+
 pub fn le64_at(s: &[u8], at: Offset) -> u64
     requires { ⌜ at .0 + 8 ≤ length (now s) ⌝ }
     ensures { λ r. ⌜ r ≡ le 8 (now (s .entry)) (at .0) ⌝ }
 {
-    le_at(s, at, 8)
+    let i = at.index();
+    le4(s, i) + 4_294_967_296 * le4(s, i + 4)
 }
 
 pub fn le32_at(s: &[u8], at: Offset) -> u32
     requires { ⌜ at .0 + 4 ≤ length (now s) ⌝ }
     ensures { λ r. ⌜ r ≡ le 4 (now (s .entry)) (at .0) ⌝ }
 {
-    le_at(s, at, 4) as u32
+    le4(s, at.index()) as u32
 }
 
 // Writes the w lowest bytes of v from `at` on.
