@@ -4,4 +4,6 @@ pub mod Keys
 pub mod Turning
 pub mod PathOrder
 pub mod Chains
+pub mod Windows
+pub mod Pivots
 pub mod Regions

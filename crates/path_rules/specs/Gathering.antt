@@ -1,26 +1,25 @@
 -- Live entries by their keys: gathered, put in order, and judged by their neighbours.
-use Prim.Native.Nat.{ℕ, suc, _+_, _-_, _*_, _/_, _%_, _≤_, _<_}
+use Prim.Native.Nat.{ℕ, suc, _+_, _-_, _*_, _%_, _≤_, _<_}
 use mathlib.Core.Path.{_≡_, refl, sym, ap, ap₂, _∙_}
-use mathlib.Core.Bool.{Bool, true, false, _||_}
+use mathlib.Core.Bool.{Bool, true, false}
 use mathlib.Core.List.{List, [], _∷_, _++_, map, append-assoc, append-nil}
 use native.Mathlib.Omega.{arith}
 use lib.ListN.{length, getD, drop, drop-of-length-le}
 use lib.Seq.{drop-length, drop-cons}
 use lib.Dec.{eqb}
-use borrow.Author.Tests.{eq-eqb}
-use Rattle.rules.specs.Lists.{pick, only, keepIf, All, Pairs, Perm, thus}
-use Rattle.rules.specs.Lists.Laws.{clash, pick-true}
-use Rattle.rules.specs.Fields.{byteAt, upToZero}
+use Rattle.rules.specs.Lists.{only, keepIf, All, Pairs, Perm, thus}
+use Rattle.rules.specs.Fields.{Bytes, upToZero}
 use Rattle.rules.specs.Index.{Entry, entryAt, liveType, runType, typeDirectory, nameField, slotBytes}
-use Rattle.rules.specs.Index.Items.{headOf, head-run, type-drop}
+use Rattle.rules.specs.Index.Items.{head-run, type-drop}
 use Rattle.rules.specs.Paths.{isLive, pathsSound}
 use Rattle.rules.specs.Paths.Laws.{live-run}
-use Rattle.laws.proofs.Lists.Perms.{perm-all, perm-map, perm-of}
+use Rattle.laws.proofs.Lists.Perms.{perm-all, perm-map}
 use Rattle.ordering.specs.Order.{turned, Sorted}
 use Rattle.ordering.specs.Turning.{turned-perm}
-use Rattle.ordering.specs.Keys.{numberOf, placeOf, keyPath, keyLe}
+use Rattle.ordering.specs.Keys.{placeOf, keyPath, keyLe}
 use Rattle.ordering.specs.Paths.{pathLe, noSlash, follows, entryFollows, chainFrom, chain}
 use Rattle.ordering.specs.Chains.{chain-sound, chain-decides}
+use Rattle.path_rules.specs.Windows.{loaded, loaded-place, Stands, loaded-stand, stands-le, key-path-is}
 use Rattle.slots.specs.declared.Head.{Head}
 use Rattle.slots.specs.View.{headView}
 use Rattle.index.specs.declared.Cursor.{Cursor}
@@ -33,7 +32,6 @@ keyEntry s c k = entryAt (c .slot .0 + placeOf k) (drop (c .at .0 + slotBytes * 
 -- the keys from place i on are of the live entries, the last one first
 pub record Gathered (s : List ℕ) (c : Cursor) (keys : List ℕ) (i : ℕ) : Type 0 where
   pub inside : i ≤ length keys
-  pub places : All (λ k. k < 65_536) (drop i keys)
   pub entries : map (keyEntry s c) (drop i keys) ≡ turned (only isLive (entriesFrom s c))
 
 -- ---- the loop: what is gathered, behind what is to come
@@ -44,7 +42,6 @@ pub record Gathering (s : List ℕ) (from : Cursor) (keys : List ℕ) (c : Curso
   pub ahead : from .slot .0 ≤ c .slot .0
   pub ends : c .slot .0 + c .left ≡ from .slot .0 + from .left
   pub place : c .at .0 + 64 * from .slot .0 ≡ from .at .0 + 64 * c .slot .0
-  pub small : All (λ k. k < 65_536) (drop i keys)
   pub gathered : turned (only isLive (entriesFrom s c)) ++ map (keyEntry s from) (drop i keys) ≡ turned (only isLive (entriesFrom s from))
 
 -- the entry that was found, by its place
@@ -72,11 +69,6 @@ module _ (s : List ℕ) (c : Cursor) (h : Head) (d : Cursor) (step : Step s c h 
       by true e = ap (λ (x : Entry). x ∷ map (keyEntry s from) ks) (found-entry from k l a b e)
       by false e = refl
 
-small-kept : (t : Bool) (k : ℕ) (ks : List ℕ) → k < 65_536 → All (λ x. x < 65_536) ks → All (λ x. x < 65_536) (keepIf t k ks)
-unfolding keepIf
-small-kept true k ks h all = (h, all)
-small-kept false k ks h all = all
-
 -- one more
 entries-next : (x : Entry) (xs ys : List Entry) → turned (only isLive xs) ++ keepIf (isLive x) x ys ≡ turned (only isLive (x ∷ xs)) ++ ys
 unfolding only turned keepIf
@@ -95,7 +87,6 @@ module _ (s : List ℕ) (from : Cursor) where
     ahead = omega arith;
     ends = refl;
     place = refl;
-    small = rw (drop-length keys) tt;
     gathered = ap (λ (ks : List ℕ). turned (only isLive (entriesFrom s from)) ++ map (keyEntry s from) ks) (drop-length keys) ∙ append-nil (turned (only isLive (entriesFrom s from)));
   }
 
@@ -104,7 +95,6 @@ module _ (s : List ℕ) (from : Cursor) where
     unfolding only turned
     gather-end e = record {
       inside = at .within;
-      places = at .small;
       entries = ap (λ (es : List Entry). turned (only isLive es) ++ map (keyEntry s from) (drop i keys)) (sym e) ∙ at .gathered;
     }
 
@@ -122,14 +112,18 @@ module _ (s : List ℕ) (from : Cursor) where
         ahead = omega (arith, step .number, step .ahead, at .ahead);
         ends = step .ends ∙ at .ends;
         place = omega (arith, step .place, step .after, step .number, at .place);
-        small = rw p (small-kept (liveType (h .kind)) (h .slot .0 - from .slot .0) (drop i keys) key-small (at .small));
         gathered =
-          ap (λ (ks : List ℕ). turned (only isLive (entriesFrom s d)) ++ map (keyEntry s from) ks) p
-          ∙ ap (λ (ys : List Entry). turned (only isLive (entriesFrom s d)) ++ ys) (found-kept s c h d step from (h .slot .0 - from .slot .0) key-small (omega (arith, step .ahead, at .ahead)) (omega (arith, step .ahead, at .ahead, step .place, at .place)) (drop i keys))
-          ∙ entries-next (headView s h) (entriesFrom s d) (map (keyEntry s from) (drop i keys))
-          ∙ ap (λ (es : List Entry). turned (only isLive es) ++ map (keyEntry s from) (drop i keys)) (sym (step .entries))
-          ∙ at .gathered;
+            ap (λ (ks : List ℕ). turned (only isLive (entriesFrom s d)) ++ map (keyEntry s from) ks) p
+            ∙ ap (λ (ys : List Entry). turned (only isLive (entriesFrom s d)) ++ ys) (found-kept s c h d step from (h .slot .0 - from .slot .0) key-small (omega (arith, step .ahead, at .ahead)) (omega (arith, step .ahead, at .ahead, step .place, at .place)) (drop i keys))
+            ∙ entries-next (headView s h) (entriesFrom s d) (map (keyEntry s from) (drop i keys))
+            ∙ ap (λ (es : List Entry). turned (only isLive es) ++ map (keyEntry s from) (drop i keys)) (sym (step .entries))
+            ∙ at .gathered;
       }
+
+-- the keys with numbers that tell where their paths stand, to one beginning or another
+pub record Numbered (s : List ℕ) (c : Cursor) (before after : List ℕ) : Type 0 where
+  pub pivot : List ℕ
+  pub keys : after ≡ map (loaded s (c .at .0) pivot) before
 
 -- ---- THE JUDGEMENT
 module _ (s : List ℕ) (c : Cursor) (keys : List ℕ) (i : ℕ) (g : Gathered s c keys i) where
@@ -139,25 +133,36 @@ module _ (s : List ℕ) (c : Cursor) (keys : List ℕ) (i : ℕ) (g : Gathered s
   pub sound-at-once : chain (map (keyEntry s c) (drop i keys)) ≡ true → true ≡ pathsSound (entriesFrom s c)
   sound-at-once e = sym (chain-sound (entriesFrom s c) (map (keyEntry s c) (drop i keys)) gathered-perm e)
 
-  key-path-le : (a b : ℕ) → a < 65_536 → b < 65_536 → keyLe s (c .at .0) a b ≡ true → pathLe (keyEntry s c a .path) (keyEntry s c b .path) ≡ true
-  unfolding keyLe numberOf keyEntry entryAt keyPath
-  key-path-le a b l m h =
-      let e : a / 65_536 ≡ b / 65_536 = omega arith in
-      sym (pick-true {b = eqb (a / 65_536) (b / 65_536)} _ _ (eq-eqb _ _ e)) ∙ h
+  -- the keys that were put in order: the same with numbers that tell where their paths stand
+  module _ (bytes : Bytes s) (pivot : List ℕ) where
+    entry-le : (a b : ℕ) → Stands s (c .at .0) pivot a → Stands s (c .at .0) pivot b → keyLe s (c .at .0) a b ≡ true
+        → pathLe (keyEntry s c a .path) (keyEntry s c b .path) ≡ true
+    unfolding keyEntry entryAt
+    entry-le a b l m h = rw (← key-path-is s (c .at .0) a, ← key-path-is s (c .at .0) b) (stands-le s (c .at .0) pivot bytes a b l m h)
 
-  path-all : (a : ℕ) → a < 65_536 → (ks : List ℕ) → All (λ k. k < 65_536) ks → All (λ b. keyLe s (c .at .0) a b ≡ true) ks
-      → All (λ f. pathLe (keyEntry s c a .path) (f .path) ≡ true) (map (keyEntry s c) ks)
-  path-all a l [] small p = tt
-  path-all a l (b ∷ ks) small p = (key-path-le a b l (small .0) (p .0), path-all a l ks (small .1) (p .1))
+    entry-all : (a : ℕ) → Stands s (c .at .0) pivot a → (ks : List ℕ) → All (Stands s (c .at .0) pivot) ks → All (λ b. keyLe s (c .at .0) a b ≡ true) ks
+        → All (λ f. pathLe (keyEntry s c a .path) (f .path) ≡ true) (map (keyEntry s c) ks)
+    entry-all a l [] w h = tt
+    entry-all a l (b ∷ ks) w h = (entry-le a b l (w .0) (h .0), entry-all a l ks (w .1) (h .1))
 
-  path-pairs : (ks : List ℕ) → All (λ k. k < 65_536) ks → Pairs (λ a b. keyLe s (c .at .0) a b ≡ true) ks → Pairs (λ e f. pathLe (e .path) (f .path) ≡ true) (map (keyEntry s c) ks)
-  path-pairs [] small p = tt
-  path-pairs (a ∷ ks) small p = (path-all a (small .0) ks (small .1) (p .0), path-pairs ks (small .1) (p .1))
+    entry-pairs : (ks : List ℕ) → All (Stands s (c .at .0) pivot) ks → Pairs (λ a b. keyLe s (c .at .0) a b ≡ true) ks
+        → Pairs (λ e f. pathLe (e .path) (f .path) ≡ true) (map (keyEntry s c) ks)
+    entry-pairs [] w h = tt
+    entry-pairs (a ∷ ks) w h = (entry-all a (w .0) ks (w .1) (h .0), entry-pairs ks (w .1) (h .1))
 
-  pub sound-sorted : (after : List ℕ) → Sorted (keyLe s (c .at .0)) (drop i keys) after → chain (map (keyEntry s c) after) ≡ pathsSound (entriesFrom s c)
-  sound-sorted after sorted =
-      sym (chain-decides (entriesFrom s c) (map (keyEntry s c) after) (thus gathered-perm (perm-map (keyEntry s c) (sorted .same)))
-      (path-pairs after (perm-all _ (sorted .same) (g .places)) (sorted .ascends)))
+    loaded-entries : (ks : List ℕ) → map (keyEntry s c) (map (loaded s (c .at .0) pivot) ks) ≡ map (keyEntry s c) ks
+    unfolding keyEntry
+    loaded-entries [] = refl
+    loaded-entries (k ∷ ks) =
+        ap₂ (λ x xs. x ∷ xs) (ap (λ (n : ℕ). entryAt (c .slot .0 + n) (drop (c .at .0 + slotBytes * n) s)) (loaded-place s (c .at .0) pivot k)) (loaded-entries ks)
+
+    pub sound-sorted : (before after : List ℕ) → before ≡ map (loaded s (c .at .0) pivot) (drop i keys) → Sorted (keyLe s (c .at .0)) before after
+        → chain (map (keyEntry s c) after) ≡ pathsSound (entriesFrom s c)
+    sound-sorted before after e sorted =
+        let p : Perm (map (loaded s (c .at .0) pivot) (drop i keys)) after = rw e at (sorted .same) in
+        sym (chain-decides (entriesFrom s c) (map (keyEntry s c) after)
+        (thus gathered-perm (rw (loaded-entries (drop i keys)) at (perm-map (keyEntry s c) p)))
+        (entry-pairs after (perm-all _ p (loaded-stand s (c .at .0) pivot (drop i keys))) (sorted .ascends)))
 
 -- ---- the loop that goes from neighbour to neighbour
 module _ (f : ℕ → Entry) (keys : List ℕ) (i : ℕ) where
