@@ -1,6 +1,7 @@
 pub mod Order
 pub mod Paths
 pub mod Keys
+pub mod Starts
 pub mod Turning
 pub mod PathOrder
 pub mod Chains

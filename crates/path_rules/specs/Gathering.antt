@@ -19,7 +19,7 @@ use Rattle.ordering.specs.Turning.{turned-perm}
 use Rattle.ordering.specs.Keys.{placeOf, keyPath, keyLe}
 use Rattle.ordering.specs.Paths.{pathLe, noSlash, follows, entryFollows, chainFrom, chain}
 use Rattle.ordering.specs.Chains.{chain-sound, chain-decides}
-use Rattle.path_rules.specs.Windows.{loaded, loaded-place, Stands, loaded-stand, stands-le, key-path-is}
+use Rattle.numbering.specs.Numbers.{loaded, loaded-place, Stands, loaded-stand, stands-le, key-path-is}
 use Rattle.slots.specs.declared.Head.{Head}
 use Rattle.slots.specs.View.{headView}
 use Rattle.index.specs.declared.Cursor.{Cursor}
@@ -119,11 +119,6 @@ module _ (s : List ℕ) (from : Cursor) where
             ∙ ap (λ (es : List Entry). turned (only isLive es) ++ map (keyEntry s from) (drop i keys)) (sym (step .entries))
             ∙ at .gathered;
       }
-
--- the keys with numbers that tell where their paths stand, to one beginning or another
-pub record Numbered (s : List ℕ) (c : Cursor) (before after : List ℕ) : Type 0 where
-  pub pivot : List ℕ
-  pub keys : after ≡ map (loaded s (c .at .0) pivot) before
 
 -- ---- THE JUDGEMENT
 module _ (s : List ℕ) (c : Cursor) (keys : List ℕ) (i : ℕ) (g : Gathered s c keys i) where

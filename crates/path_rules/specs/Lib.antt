@@ -1,4 +1,3 @@
 pub mod Turns
 pub mod Names
-pub mod Windows
 pub mod Gathering

@@ -8,7 +8,8 @@ use borrow.Author.Tests.{ne-eqb}
 use borrow.Author.Needs.{needs}
 use Rattle.rules.specs.Fields.{upToZero}
 use Rattle.ordering.specs.Paths.{follows}
-use Rattle.path_rules.specs.Names.{startsAt, starts-as, more-bytes, both-end, both-on}
+use Rattle.ordering.specs.Starts.{startsAt, starts-as, more-bytes}
+use Rattle.path_rules.specs.Names.{both-end, both-on}
 use Rattle.path_rules.proofs.name_follows.Statement.{statement}
 use Rattle.path_rules.proofs.name_follows.Tie as tie
 

@@ -7,7 +7,8 @@ use denote.Ref.{now}
 use borrow.Author.Needs.{needs}
 use Rattle.rules.specs.Fields.{upToZero}
 use Rattle.ordering.specs.Paths.{noSlash}
-use Rattle.path_rules.specs.Names.{starts, slash-end, slash-here, slash-later, slash-past}
+use Rattle.ordering.specs.Starts.{starts}
+use Rattle.path_rules.specs.Names.{slash-end, slash-here, slash-later, slash-past}
 use Rattle.path_rules.proofs.no_slash.Statement.{statement}
 use Rattle.path_rules.proofs.no_slash.Tie as tie
 

@@ -9,7 +9,8 @@ use borrow.Author.Tests.{eqb-false}
 use borrow.Author.Needs.{needs}
 use Rattle.rules.specs.Fields.{upToZero}
 use Rattle.ordering.specs.Paths.{rank, noSlash, follows}
-use Rattle.path_rules.specs.Names.{startsAt, starts-as, more-bytes, part-second-ends, part-below, part-barred, part-first-ends, part-later, part-earlier}
+use Rattle.ordering.specs.Starts.{startsAt, starts-as, more-bytes}
+use Rattle.path_rules.specs.Names.{part-second-ends, part-below, part-barred, part-first-ends, part-later, part-earlier}
 use Rattle.path_rules.proofs.parted.Statement.{statement}
 use Rattle.path_rules.proofs.parted.Tie as tie
 
