@@ -148,10 +148,10 @@ module _ (s : List ℕ) (g : Geometry) (from : Cursor) where
       room = omega (arith, step .less, at .room);
       inside = omega (arith, at .inside);
       gathered =
-        ap (λ (ks : List ℕ). regionKeys (entriesFrom s d) ++ ks) p
-        ∙ keys-next (headView s h) (entriesFrom s d) (drop i keys)
-        ∙ ap (λ (es : List Entry). regionKeys es ++ drop i keys) (sym (step .entries))
-        ∙ at .gathered;
+          ap (λ (ks : List ℕ). regionKeys (entriesFrom s d) ++ ks) p
+          ∙ keys-next (headView s h) (entriesFrom s d) (drop i keys)
+          ∙ ap (λ (es : List Entry). regionKeys es ++ drop i keys) (sym (step .entries))
+          ∙ at .gathered;
     }
 
 -- ---- the loop that goes from key to key

@@ -181,7 +181,13 @@ pub fn order(img: &[u8], at: Offset, keys: &mut [u64], i: usize, tmp: &mut [u64]
 }
 
 // Whether the regions of the entries from the cursor on are sound. keys and tmp are scratch.
-pub fn regions_sound(img: &[u8], g: Geometry, from: Cursor, keys: &mut [u64], tmp: &mut [u64]) -> bool
+pub fn regions_sound(
+    img: &[u8],
+    g: Geometry,
+    from: Cursor,
+    keys: &mut [u64],
+    tmp: &mut [u64],
+) -> bool
     requires { ⌜ Bounded g × Walks (now img) from × (from .left ≤ length (now keys)) × (length (now keys) ≤ length (now tmp)) ⌝ }
     ensures { λ r. ⌜ r ≡ regionsSound (geometryView g) (entriesFrom (now (img .entry)) from) ⌝ }
 {

@@ -25,8 +25,7 @@ returns c =
     let w3 = c .before .before in
     let w2 = w3 .before .before in
     let w1 = w2 .before .before in
-    let a = w1 .before .before .before .args in
-    (
+    let a = w1 .before .before .before .args in (
       four (now (a .s)) (a .i) _ _ _ _ (w1 .wide .ensures .0) (w2 .wide2 .ensures .0) (w3 .wide3 .ensures .0) (c .wide4 .ensures .0),
       few _ _ _ _ (w1 .wide .ensures .1) (w2 .wide2 .ensures .1) (w3 .wide3 .ensures .1) (c .wide4 .ensures .1),
     )
