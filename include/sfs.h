@@ -36,6 +36,7 @@ extern "C" {
 #define SFS_INDEX_MAX 262144u
 #define SFS_LISTING_IMAGE_MAX 65536u
 #define SFS_LISTING_ROOM 131072u  /* enough for the listing of any image */
+#define SFS_STACK_MAX 81920u      /* bytes of stack that a call takes at most; none takes any heap */
 
 /* Kinds of an entry. */
 #define SFS_DIRECTORY 0x11u

@@ -18,7 +18,7 @@ use second::script::Session;
 use second::selftest::restore_table;
 use std::process::ExitCode;
 
-const USAGE: &str = "usage: compare SEED CALLS [history|damage|built|edges|args|names|restore|tails]
+const USAGE: &str = "usage: compare SEED CALLS [history|damage|built|edges|args|names|restore|tails|crowded]
        compare bench [VOLUMES]
        compare names";
 

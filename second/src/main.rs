@@ -7,7 +7,7 @@ use std::io::{self, BufRead, BufWriter, Read, Write};
 use std::process::ExitCode;
 
 const USAGE: &str = "usage: second run < SCRIPT
-       second gen SEED COUNT [history|damage|built|edges|args|names|restore|tails]
+       second gen SEED COUNT [history|damage|built|edges|args|names|restore|tails|crowded]
        second selftest SEED SCRIPTS
        second listing < IMAGE";
 

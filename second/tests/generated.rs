@@ -22,7 +22,7 @@ fn histories_hold() {
 
 #[test]
 fn scripts_are_the_same_every_time() {
-    for kind in ["history", "damage", "built", "edges", "args", "names", "restore", "tails"] {
+    for kind in ["history", "damage", "built", "edges", "args", "names", "restore", "tails", "crowded"] {
         let script = generator::script(3, 200, Some(kind));
         assert!(script.as_ref().is_some_and(|script| script.len() > 1000));
         assert_eq!(script, generator::script(3, 200, Some(kind)));

@@ -3,6 +3,7 @@
 
 mod args;
 mod built;
+mod crowded;
 mod damage;
 mod edges;
 mod history;
@@ -20,7 +21,7 @@ use crate::xorshift::Xorshift;
 type Scene = fn(&mut Writer);
 
 /// The families of scenes, with the weight each has in a mixed script.
-const FAMILIES: [(&str, u64, Scene); 8] = [
+const FAMILIES: [(&str, u64, Scene); 9] = [
     ("history", 40, history::scene),
     ("damage", 20, damage::scene),
     ("built", 20, built::scene),
@@ -29,6 +30,7 @@ const FAMILIES: [(&str, u64, Scene); 8] = [
     ("names", 12, names::scene),
     ("restore", 20, restore::scene),
     ("tails", 12, tails::scene),
+    ("crowded", 6, crowded::scene),
 ];
 
 /// A script of about `count` calls, of one family or mixed; nothing when there is no such family.
