@@ -8,14 +8,14 @@ use native.Mathlib.Omega.{arith}
 use lib.ListN.{length, getD, drop, drop-of-length-le}
 use lib.Dec.{ltb, leb}
 use borrow.Author.Tests.{leb-true, leb-false, lt-ltb, le-ltb}
-use Rattle.rules.specs.Lists.{pick, any, keepIf, only, All, Pairs, Perm, thus}
+use Rattle.rules.specs.Lists.{pick, any, keepIf, only, All, Pairs, Perm}
 use Rattle.rules.specs.Lists.Laws.{and-both, and-left, and-right, pick-true, pick-false}
 use Rattle.rules.specs.Index.{Entry}
 use Rattle.rules.specs.Regions.{runFree, lowestFree}
 use Rattle.laws.proofs.Lists.Every.{or-left, any-none, all-weaken}
 use Rattle.laws.proofs.Lists.Perms.{perm-any}
 use Rattle.ordering.specs.Regions.{regionKey, hasRegion, keyStart, keyEnd, freeFrom, Small, Keyed, Filled, all-keyed, all-filled, start-le}
-use Rattle.regions.specs.Gathering.{Ordered, ordered-ascends, turn-here}
+use Rattle.regions.specs.Gathering.{HasRegions, turn-here}
 use Rattle.free_runs.specs.Runs.{meets, run-free, lowest-none, lowest-here, lowest-skip}
 
 -- ---- a key's region reaches into n blocks from b on
@@ -119,22 +119,10 @@ module _ (es : List Entry) (n c : ℕ) (some-blocks : 1 ≤ n) where
           ∙ sym (ap stop (pick-false b next e))
 
 -- of any entries, apart or not
-pub free-in-order : (es : List Entry) (ks : List ℕ) (n low ceiling : ℕ) → 1 ≤ n → All Small es → Perm (map regionKey (only hasRegion es)) ks
-    → Pairs (λ a b. a / 65_536 ≤ b / 65_536) ks
-    → lowestFree es n low ceiling ≡ pick (leb (freeFrom n low ks + n) ceiling) (some (freeFrom n low ks)) none
-free-in-order es ks n low ceiling m s p o =
-    searched es n ceiling m low ks (all-filled es ks s p) o (λ v l. free-keys es ks s p v n)
-
--- ---- the code: good entries that have the regions of these keys
-pub record HasRegions (es : List Entry) (keys : List ℕ) : Type 0 where
-  pub small : All Small es
-  pub same : Perm (map regionKey (only hasRegion es)) keys
-
-pub free-ordered : (es : List Entry) (keys : List ℕ) → HasRegions es keys → (after : List ℕ) (r : Bool) → Ordered keys after r → (n low ceiling : ℕ) → 1 ≤ n
-    → (b : ℕ) → b ≡ freeFrom n low after → pick (leb (b + n) ceiling) (some b) none ≡ lowestFree es n low ceiling
-free-ordered es keys h after r o n low ceiling m b e =
-    let p = thus (h .same) (o .same) in
-    rw e (sym (free-in-order es after n low ceiling m (h .small) p (ordered-ascends es keys after r o (h .small) p)))
+pub free-in-order : (es : List Entry) (ks : List ℕ) → HasRegions es ks → (n low ceiling : ℕ) → 1 ≤ n
+    → (b : ℕ) → b ≡ freeFrom n low ks → pick (leb (b + n) ceiling) (some b) none ≡ lowestFree es n low ceiling
+free-in-order es ks h n low ceiling m b e =
+    rw e (sym (searched es n ceiling m low ks (all-filled es ks (h .small) (h .same)) (h .ascends) (λ v l. free-keys es ks (h .small) (h .same) v n)))
 
 -- the loop that goes from key to key
 module _ (ks : List ℕ) (n b i : ℕ) where

@@ -1,30 +1,24 @@
 // Free runs, blocks held, and the blocks that a file needs.
 
-use geometry::Geometry;
 use index::Cursor;
 use index::Next;
-use regions::Gathered;
 use slots::Head;
 use units::Block;
-use units::Offset;
 ghost use mathlib.Core.Path.{_≡_};
-ghost use mathlib.Core.Bool.{true};
 ghost use mathlib.Core.List.{List};
 ghost use mathlib.Core.Option.{none, some};
 ghost use Prim.Native.Nat.{ℕ, _+_, _^_, _≤_, _<_};
-ghost use lib.ListN.{length, drop};
+ghost use lib.ListN.{drop};
 ghost use lib.Dec.{leb};
-ghost use Rattle.rules.specs.Lists.{pick, all};
+ghost use Rattle.rules.specs.Lists.{pick};
 ghost use Rattle.rules.specs.Index.{Entry};
-ghost use Rattle.rules.specs.Regions.{heldBlocks, regionGood, lowestFree, blocksNeeded};
+ghost use Rattle.rules.specs.Regions.{heldBlocks, lowestFree, blocksNeeded};
 ghost use Rattle.rules.specs.Writing.{undeleted, leastEnd};
-ghost use Rattle.geometry.specs.View.{geometryView};
 ghost use Rattle.slots.specs.View.{headView};
 ghost use Rattle.index.specs.Steps.{Walks, entriesFrom};
 ghost use Rattle.ordering.specs.Regions.{freeFrom};
-ghost use Rattle.regions.specs.Bounds.{Bounded};
+ghost use Rattle.regions.specs.Gathering.{HasRegions};
 ghost use Rattle.free_runs.specs.View.{freeView};
-ghost use Rattle.free_runs.specs.InOrder.{HasRegions};
 ghost use Rattle.free_runs.specs.Sums.{fileBlocks, keptEnd};
 
 pub enum Free {
@@ -72,44 +66,14 @@ fn free_below(b: Block, k: u64, ceiling: Block) -> Free
     Free::At(b)
 }
 
-// The lowest start among any entries that have the regions of the keys from place i on. The keys are put in order; tmp is scratch.
-fn free_among(
-    img: &[u8],
-    at: Offset,
-    keys: &mut [u64],
-    i: usize,
-    tmp: &mut [u64],
-    k: u64,
-    low: Block,
-    ceiling: Block,
-) -> Free
-    requires { ⌜ (i ≤ length (now keys)) × (length (now keys) ≤ length (now tmp)) × (at .0 ≤ 16_777_216) × (1 ≤ k) ⌝ }
+// The lowest start, at or past `low`, of k blocks that end at or below `ceiling` and that are free of the regions of the keys from place i on.
+// These are in order, and the search passes over them once.
+pub fn lowest_free(keys: &[u64], i: usize, k: u64, low: Block, ceiling: Block) -> Free
+    requires { ⌜ 1 ≤ k ⌝ }
     ensures { λ r. ⌜ ((es : List Entry) → HasRegions es (drop i (now (keys .entry))) → freeView r ≡ lowestFree es k (low .0) (ceiling .0)) ⌝ }
 {
-    regions::order(img, at, keys, i, tmp);
     let b = free_from(keys, i, k, low);
     free_below(b, k, ceiling)
-}
-
-// The lowest start, at or past `low`, of k free blocks that end at or below `ceiling`. keys and tmp are scratch.
-// The regions are gathered and put in order, and the search passes over them once.
-pub fn lowest_free(
-    img: &[u8],
-    g: Geometry,
-    from: Cursor,
-    k: u64,
-    low: Block,
-    ceiling: Block,
-    keys: &mut [u64],
-    tmp: &mut [u64],
-) -> Free
-    requires { ⌜ Bounded g × Walks (now img) from × (all (regionGood (geometryView g)) (entriesFrom (now img) from) ≡ true) × (1 ≤ k) × (from .left ≤ length (now keys)) × (length (now keys) ≤ length (now tmp)) ⌝ }
-    ensures { λ r. ⌜ freeView r ≡ lowestFree (entriesFrom (now (img .entry)) from) k (low .0) (ceiling .0) ⌝ }
-{
-    match regions::gather(img, g, from, keys) {
-        Gathered::Bad => Free::Nothing,
-        Gathered::From(i) => free_among(img, from.at, keys, i, tmp, k, low, ceiling),
-    }
 }
 
 // ---- sums and ends over all entries

@@ -1,2 +1,3 @@
 pub mod View
+pub mod Keeping
 pub mod Searches

@@ -1,6 +1,6 @@
 -- Places for a run and for a file's blocks, by the tests that the code makes.
 use Prim.Native.Nat.{ℕ, zero, suc, _+_, _-_, _*_, _/_, _%_, _≤_, _<_}
-use mathlib.Core.Path.{_≡_, refl, sym, ap, ap₂, _∙_}
+use mathlib.Core.Path.{_≡_, refl, sym, ap, _∙_}
 use mathlib.Core.Bool.{Bool, true, false, _&&_}
 use mathlib.Core.List.{List}
 use mathlib.Core.Option.{Option, none, some}
@@ -10,14 +10,12 @@ use native.Mathlib.Decide.{decLt}
 use lib.Dec.{eqb, leb}
 use lib.IntN.{ℤ}
 use borrow.Author.Tests.{le-leb, lt-leb, eq-eqb}
-use Rattle.rules.specs.Lists.{all, everyTwo}
-use Rattle.rules.specs.Lists.Laws.{pick-true, pick-false, and-true, and-right}
+use Rattle.rules.specs.Lists.Laws.{pick-true, pick-false, and-right}
 use Rattle.rules.specs.SuperBlock.{Geometry, mostIndexBytes, indexGood, blockLength, ceilingBlock, dataEnd, growIndex, withIndex, extendData, restamp}
 use Rattle.rules.specs.SuperBlock.Laws.{GoodGeometry, reserved-pos}
 use Rattle.rules.specs.Index.{Entry, itemsOf, slotBytes}
-use Rattle.rules.specs.Regions.{regionGood, apart, regionsSound, lowestFree}
+use Rattle.rules.specs.Regions.{lowestFree}
 use Rattle.rules.specs.Refusals.{Volume}
-use Rattle.rules.specs.Refusals.Laws.{judge-opens}
 use Rattle.rules.specs.Writing.{Site as Placing, Place, mayGrow, grownPlace, placeFrom, placeRun, placeFile, lowestUnused}
 use Rattle.laws.proofs.Entries.Creating.{block-pos}
 use Rattle.laws.proofs.Images.Placing.{newGeometry}
@@ -25,10 +23,8 @@ use Rattle.geometry.specs.View.{geometryView, areasFit}
 use Rattle.geometry.specs.declared.Geometry.{Geometry as Held}
 use Rattle.index.specs.declared.Cursor.{Cursor}
 use Rattle.index.specs.View.{Inside, itemsFrom}
-use Rattle.index.specs.Steps.{entriesFrom}
 use Rattle.free_runs.specs.declared.Free.{Free}
 use Rattle.free_runs.specs.View.{freeView}
-use Rattle.judging.specs.View.{Opened, volumeOf, opened-entries}
 use Rattle.planning.specs.declared.RunPlace.{RunPlace}
 use Rattle.planning.specs.declared.RunPlace.the-variants.{Nothing, At}
 
@@ -38,14 +34,7 @@ placeView (At k g) = some (record { slot = k .0; geometry = geometryView g })
 
 -- the cursor at the first slot of the index that g says
 abbrev pub Begins : List ℕ → Held → Cursor → Type 0
-Begins s g c = (itemsFrom s c ≡ itemsOf s (geometryView g)) × Inside s c × (c .left ≤ 4094)
-
--- the regions of its entries are good
-pub opened-regions : (s : List ℕ) (g : Held) → Opened s g → (c : Cursor) → Begins s g c → all (regionGood (geometryView g)) (entriesFrom s c) ≡ true
-unfolding regionsSound
-opened-regions s g o c b =
-    and-true (all (regionGood (geometryView g)) (entriesFrom s c)) (everyTwo apart (entriesFrom s c))
-    (ap (regionsSound (geometryView g)) (opened-entries s g o c (b .0)) ∙ judge-opens s (volumeOf s (geometryView g)) o .regions-sound) .0
+Begins s g c = (itemsFrom s c ≡ itemsOf s (geometryView g)) × Inside s c
 
 -- a site by its parts: g before the call, grown after any growth of the index
 abbrev pub siteFrom : Geometry → Geometry → ℕ → ℕ → ℕ → ℕ → ℤ → Placing
@@ -137,5 +126,5 @@ pub run-says : (n : ℕ) (v : Volume) (slots : ℕ) (r x : RunPlace) → placeVi
 run-says n v slots r x told e m k = ap (placeRun n v) (sym k) ∙ sym told ∙ ap placeView e
 
 pub file-says : (n : ℕ) (g : Geometry) (es : List Entry) (k : ℕ) (r x : Free) → freeView r ≡ placeFile n g es k → r ≡ x
-    → (fs : List Entry) → es ≡ fs → (m : ℕ) → k ≡ m → placeFile n g fs m ≡ freeView x
-file-says n g es k r x told e fs f m j = ap₂ (placeFile n g) (sym f) (sym j) ∙ sym told ∙ ap freeView e
+    → (m : ℕ) → k ≡ m → placeFile n g es m ≡ freeView x
+file-says n g es k r x told e m j = ap (placeFile n g es) (sym j) ∙ sym told ∙ ap freeView e

@@ -4,24 +4,24 @@ use free_runs::Free;
 use geometry::Geometry;
 use index::Cursor;
 use index::Unused;
-use judging::Judged;
+use judging::Kept;
 use placing::Site;
 use units::Block;
 use units::Slot;
 ghost use mathlib.Core.Path.{_≡_};
 ghost use mathlib.Core.List.{List};
 ghost use Prim.Native.Nat.{ℕ, _+_, _*_, _^_, _≤_, _<_};
-ghost use lib.ListN.{length};
+ghost use lib.ListN.{length, drop};
 ghost use Rattle.rules.specs.Fields.{signedOf};
 ghost use Rattle.rules.specs.SuperBlock.{growIndex};
 ghost use Rattle.rules.specs.SuperBlock.Laws.{GoodGeometry};
-ghost use Rattle.rules.specs.Index.{slotBytes};
-ghost use Rattle.rules.specs.Regions.{lowestFree};
+ghost use Rattle.rules.specs.Index.{Entry, slotBytes};
 ghost use Rattle.rules.specs.Writing.{newSlots, newBlocks, grownPlace, placeRun, placeFile};
 ghost use Rattle.geometry.specs.View.{geometryView};
-ghost use Rattle.index.specs.Steps.{entriesFrom};
+ghost use Rattle.regions.specs.Gathering.{HasRegions};
 ghost use Rattle.free_runs.specs.View.{freeView};
 ghost use Rattle.judging.specs.View.{Opened, volumeOf};
+ghost use Rattle.judging.specs.Keeping.{KeysOf};
 ghost use Rattle.planning.specs.Places.{placeView, siteFrom, Begins};
 ghost use Rattle.planning.specs.Planned.{Planned, Admitted};
 ghost use Rattle.placing.specs.Site.{newOf, siteView};
@@ -59,26 +59,17 @@ fn place_run(img: &[u8], g: Geometry, from: Cursor, n: u64) -> RunPlace
 
 // ---- a place for the file
 
-// The lowest k free blocks from block `low` up to `ceiling`, with scratch for the regions of all entries.
-fn free_blocks(img: &[u8], g: Geometry, from: Cursor, k: u64, low: Block, ceiling: Block) -> Free
-    requires { ⌜ Opened (now img) g × Begins (now img) g from × (1 ≤ k) ⌝ }
-    ensures { λ r. ⌜ freeView r ≡ lowestFree (entriesFrom (now (img .entry)) from) k (low .0) (ceiling .0) ⌝ }
-{
-    let mut keys = [0u64; 4094];
-    let mut tmp = [0u64; 4094];
-    free_runs::lowest_free(img, g, from, k, low, ceiling, &mut keys, &mut tmp)
-}
-
-// The lowest k free blocks below the ceiling block of `grown`, the geometry after any growth of the index; no blocks stand at 0.
-fn place_file(img: &[u8], g: Geometry, grown: Geometry, from: Cursor, k: u64) -> Free
-    requires { ⌜ Opened (now img) g × Begins (now img) g from × (grown .field ≤ 5) × (grown .index ≤ length (now img)) ⌝ }
-    ensures { λ r. ⌜ freeView r ≡ placeFile (length (now (img .entry))) (geometryView grown) (entriesFrom (now (img .entry)) from) k ⌝ }
+// The lowest k free blocks below the ceiling block of `grown`, the geometry after any growth of the index; no blocks stand at 0. The keys of all
+// regions stand in order from place i of `keys` on.
+fn place_file(img: &[u8], grown: Geometry, keys: &[u64], i: usize, k: u64) -> Free
+    requires { ⌜ (grown .field ≤ 5) × (grown .index ≤ length (now img)) ⌝ }
+    ensures { λ r. ⌜ ((es : List Entry) → HasRegions es (drop i (now (keys .entry))) → freeView r ≡ placeFile (length (now (img .entry))) (geometryView grown) es k) ⌝ }
 {
     if k == 0 {
         return Free::At(Block::at(0));
     }
     let ceiling = grown.ceiling(img.len() as u64);
-    free_blocks(img, g, from, k, grown.data_start(), ceiling)
+    free_runs::lowest_free(keys, i, k, grown.data_start(), ceiling)
 }
 
 // ---- the plan
@@ -142,12 +133,14 @@ fn plan_places(
     img: &[u8],
     g: Geometry,
     from: Cursor,
+    keys: &[u64],
+    i: usize,
     file: bool,
     path: &[u8],
     bytes: &[u8],
     stamp: u64,
 ) -> Plan
-    requires { ⌜ Opened (now img) g × Begins (now img) g from × Admitted (now img) g (now path) ⌝ }
+    requires { ⌜ Opened (now img) g × Begins (now img) g from × Admitted (now img) g (now path) × KeysOf (now img) g (drop i (now keys)) ⌝ }
     ensures { λ r. ⌜ Planned (now (img .entry)) (newOf file (now (bytes .entry))) (now (path .entry)) (signedOf stamp) r ⌝ }
 {
     let slots = slots_for(file, path);
@@ -155,7 +148,7 @@ fn plan_places(
         RunPlace::Nothing => Plan::Refused(15),
         RunPlace::At(slot, grown) => {
             let blocks = blocks_for(g, file, bytes);
-            match place_file(img, g, grown, from, blocks) {
+            match place_file(img, grown, keys, i, blocks) {
                 Free::Nothing => Plan::Refused(16),
                 Free::At(start) => Plan::At(site_at(g, grown, slot, slots, start, blocks, stamp)),
             }
@@ -164,8 +157,17 @@ fn plan_places(
 }
 
 // 9 to 13: what may be written, and by which path.
-fn plan_opened(img: &[u8], g: Geometry, file: bool, path: &[u8], bytes: &[u8], stamp: u64) -> Plan
-    requires { ⌜ Opened (now img) g ⌝ }
+fn plan_opened(
+    img: &[u8],
+    g: Geometry,
+    keys: &[u64],
+    i: usize,
+    file: bool,
+    path: &[u8],
+    bytes: &[u8],
+    stamp: u64,
+) -> Plan
+    requires { ⌜ Opened (now img) g × KeysOf (now img) g (drop i (now keys)) ⌝ }
     ensures { λ r. ⌜ Planned (now (img .entry)) (newOf file (now (bytes .entry))) (now (path .entry)) (signedOf stamp) r ⌝ }
 {
     if !g.is_writable() {
@@ -181,15 +183,17 @@ fn plan_opened(img: &[u8], g: Geometry, file: bool, path: &[u8], bytes: &[u8], s
     if !path_rules::nearest_live(img, from, path) {
         return Plan::Refused(13);
     }
-    plan_places(img, g, from, file, path, bytes, stamp)
+    plan_places(img, g, from, keys, i, file, path, bytes, stamp)
 }
 
 // A file of these bytes, or a directory: all that a create tests, on any image and any arguments.
 pub fn plan_create(img: &[u8], file: bool, path: &[u8], bytes: &[u8], stamp: u64) -> Plan
     ensures { λ r. ⌜ Planned (now (img .entry)) (newOf file (now (bytes .entry))) (now (path .entry)) (signedOf stamp) r ⌝ }
 {
-    match judging::judge(img) {
-        Judged::Refused(n) => Plan::Refused(n),
-        Judged::Good(g) => plan_opened(img, g, file, path, bytes, stamp),
+    let mut keys = [0u64; judging::MOST];
+    let mut tmp = [0u64; judging::MOST];
+    match judging::judge_keeping(img, &mut keys, &mut tmp) {
+        Kept::Refused(n) => Plan::Refused(n),
+        Kept::Good(g, i) => plan_opened(img, g, &keys, i, file, path, bytes, stamp),
     }
 }

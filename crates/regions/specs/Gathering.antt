@@ -1,7 +1,7 @@
 -- Regions gathered and put in order.
 use Prim.Native.Nat.{ℕ, suc, _+_, _/_, _≤_, _<_}
 use mathlib.Core.Path.{_≡_, refl, sym, ap, ap₂, _∙_}
-use mathlib.Core.Bool.{Bool, true, false, _&&_, _||_}
+use mathlib.Core.Bool.{Bool, true, false, _&&_}
 use mathlib.Core.List.{List, [], _∷_, _++_, map, append-assoc, append-nil}
 use native.Mathlib.Omega.{arith}
 use lib.ListN.{length, getD, drop, drop-of-length-le}
@@ -14,7 +14,7 @@ use Rattle.rules.specs.SuperBlock.{dataEnd}
 use Rattle.rules.specs.Index.{Entry, fileType, typeUnusable}
 use Rattle.rules.specs.Index.Walk.{walkAll}
 use Rattle.rules.specs.Regions.{regionGood, fileRegionGood, withinData, regionsSound, apart}
-use Rattle.laws.proofs.Index.Entries.{IsRun, IsUnusable, run-bare, run-kind, unusable-kind, of-walk}
+use Rattle.laws.proofs.Index.Entries.{IsRun, IsUnusable, run-bare, unusable-kind, of-walk}
 use Rattle.laws.proofs.Lists.Every.{all-weaken, all-and, all-says, pairs-weaken}
 use Rattle.ordering.specs.Order.{turned, Sorted}
 use Rattle.ordering.specs.Keys.{numberOf, keyPath, keyLe}
@@ -30,6 +30,8 @@ use Rattle.index.specs.Steps.{Walks, Step, entriesFrom}
 use Rattle.index.specs.Turns.{all-next}
 use Rattle.regions.specs.declared.Gathered.{Gathered}
 use Rattle.regions.specs.declared.Gathered.the-variants.{Bad, From}
+use Rattle.regions.specs.declared.Regions.{Regions}
+use Rattle.regions.specs.declared.Regions.the-variants.{Unsound, From as InOrder}
 use Rattle.regions.specs.Bounds.{Bounded, within-true}
 
 -- the keys of the regions that entries have, the last one first
@@ -199,30 +201,61 @@ module _ (keys : List ℕ) where
     ascends = λ f. pairs-weaken _ _ (number-le s at) after (sorted .ascends);
   }
 
--- the keys of regions ascend then, in turn or not
-pub ordered-ascends : (es : List Entry) (keys after : List ℕ) (r : Bool) → Ordered keys after r → All Small es → Perm (map regionKey (only hasRegion es)) after
-    → Pairs (λ a b. a / 65_536 ≤ b / 65_536) after
-ordered-ascends es keys after r o s p = by r refl
-  where
-    by : (t : Bool) → r ≡ t → Pairs (λ a b. a / 65_536 ≤ b / 65_536) after
-    by true f = in-turn-ascends after (all-filled es after s p) (sym (o .turns) ∙ f)
-    by false f = o .ascends f
-
 -- ---- THE JUDGEMENT: the regions of entries, by their keys in order
+-- the keys are those of the regions that entries have, and they ascend
+pub record HasRegions (es : List Entry) (keys : List ℕ) : Type 0 where
+  pub small : All Small es
+  pub same : Perm (map regionKey (only hasRegion es)) keys
+  pub ascends : Pairs (λ a b. a / 65_536 ≤ b / 65_536) keys
+
+unfoldable pub JudgesRegions : List ℕ → Geometry → Cursor → List ℕ → Regions → Type 0
+JudgesRegions s g c keys Unsound = regionsSound (geometryView g) (entriesFrom s c) ≡ false
+JudgesRegions s g c keys (InOrder i) =
+    (regionsSound (geometryView g) (entriesFrom s c) ≡ true) × (i ≤ length keys) × HasRegions (entriesFrom s c) (drop i keys)
+
+module _ (s : List ℕ) (g : Geometry) (c : Cursor) (keys : List ℕ) (r : Regions) (h : JudgesRegions s g c keys r) where
+  pub regions-unsound : r ≡ Unsound → regionsSound (geometryView g) (entriesFrom s c) ≡ false
+  unfolding JudgesRegions
+  regions-unsound e = rw e at h
+
+  pub regions-from : (i : ℕ) → r ≡ InOrder i
+      → (regionsSound (geometryView g) (entriesFrom s c) ≡ true) × (i ≤ length keys) × HasRegions (entriesFrom s c) (drop i keys)
+  unfolding JudgesRegions
+  regions-from i e = rw e at h
+
 module _ (s : List ℕ) (g : Geometry) (bounded : Bounded g) (c : Cursor) (good : all (regionGood (geometryView g)) (entriesFrom s c) ≡ true) where
-  pub all-small : All Small (entriesFrom s c)
+  all-small : All Small (entriesFrom s c)
   all-small =
       all-weaken _ _ (λ e h. h .1 (h .0)) (entriesFrom s c)
       (all-and _ _ (entriesFrom s c) (all-says (regionGood (geometryView g)) (entriesFrom s c) good) (good-small g bounded s c))
 
-  pub keys-same : (keys after : List ℕ) → keys ≡ regionKeys (entriesFrom s c) → Perm keys after → Perm (map regionKey (only hasRegion (entriesFrom s c))) after
-  unfolding regionKeys
-  keys-same keys after e p = thus (turned-perm (map regionKey (only hasRegion (entriesFrom s c)))) (rw e at p)
+  module _ (keys after : List ℕ) (is : keys ≡ regionKeys (entriesFrom s c)) where
+    keys-same : Perm keys after → Perm (map regionKey (only hasRegion (entriesFrom s c))) after
+    unfolding regionKeys
+    keys-same p = thus (turned-perm (map regionKey (only hasRegion (entriesFrom s c)))) (rw is at p)
 
-  pub sound-ordered : (keys after : List ℕ) (r : Bool) → keys ≡ regionKeys (entriesFrom s c) → Ordered keys after r → r ≡ regionsSound (geometryView g) (entriesFrom s c)
-  unfolding regionsSound
-  sound-ordered keys after r e o = rw good (by r refl)
-    where
-      by : (t : Bool) → r ≡ t → r ≡ everyTwo apart (entriesFrom s c)
-      by true f = f ∙ sym (in-turn-apart (entriesFrom s c) after all-small (keys-same keys after e (o .same)) (sym (o .turns) ∙ f))
-      by false f = o .turns ∙ sym (in-turn-decides (entriesFrom s c) after all-small (keys-same keys after e (o .same)) (o .ascends f))
+    sound-ordered : (r : Bool) → Ordered keys after r → r ≡ regionsSound (geometryView g) (entriesFrom s c)
+    unfolding regionsSound
+    sound-ordered r o = rw good (by r refl)
+      where
+        by : (t : Bool) → r ≡ t → r ≡ everyTwo apart (entriesFrom s c)
+        by true f = f ∙ sym (in-turn-apart (entriesFrom s c) after all-small (keys-same (o .same)) (sym (o .turns) ∙ f))
+        by false f = o .turns ∙ sym (in-turn-decides (entriesFrom s c) after all-small (keys-same (o .same)) (o .ascends f))
+
+    pub ordered-unsound : (r : Bool) → Ordered keys after r → r ≡ false → (kept : List ℕ) → JudgesRegions s g c kept Unsound
+    unfolding JudgesRegions
+    ordered-unsound r o f kept = sym (sound-ordered r o) ∙ f
+
+  pub ordered-from : (keys kept : List ℕ) (i : ℕ) → keys ≡ regionKeys (entriesFrom s c) → i ≤ length kept
+      → (r : Bool) → Ordered keys (drop i kept) r → r ≡ true → JudgesRegions s g c kept (InOrder i)
+  unfolding JudgesRegions
+  ordered-from keys kept i is l r o f =
+      let p = keys-same keys (drop i kept) is (o .same) in (
+        sym (sound-ordered keys (drop i kept) is r o) ∙ f,
+        l,
+        record {
+          small = all-small;
+          same = p;
+          ascends = in-turn-ascends (drop i kept) (all-filled (entriesFrom s c) (drop i kept) all-small p) (sym (o .turns) ∙ f);
+        },
+      )

@@ -20,7 +20,7 @@ ghost use Rattle.slots.specs.View.{headView};
 ghost use Rattle.index.specs.Steps.{Walks, entriesFrom};
 ghost use Rattle.ordering.specs.Regions.{regionKey, hasRegion, keyStart, keyEnd, inTurn};
 ghost use Rattle.regions.specs.Bounds.{Bounded};
-ghost use Rattle.regions.specs.Gathering.{Gathers, Ordered};
+ghost use Rattle.regions.specs.Gathering.{Gathers, Ordered, JudgesRegions};
 
 // One block or more, in the data area.
 fn within_data(g: Geometry, h: Head) -> bool
@@ -118,7 +118,7 @@ fn put_region(keys: &mut [u64], i: usize, h: Head) -> usize
 }
 
 // The regions of all entries from the cursor on, the last one first: those of an index that creates made are in order then.
-pub fn gather(img: &[u8], g: Geometry, from: Cursor, keys: &mut [u64]) -> Gathered
+fn gather(img: &[u8], g: Geometry, from: Cursor, keys: &mut [u64]) -> Gathered
     requires { ⌜ Bounded g × Walks (now img) from × (from .left ≤ length (now keys)) ⌝ }
     ensures { λ r. ⌜ Gathers (now (img .entry)) g from (now (keys .exit)) r ⌝ }
 {
@@ -169,7 +169,7 @@ fn in_turn(keys: &[u64], from: usize) -> bool
 }
 
 // The regions from place i on put in order by their starts, if they do not stand in turn already; tmp is scratch. Whether they share no block.
-pub fn order(img: &[u8], at: Offset, keys: &mut [u64], i: usize, tmp: &mut [u64]) -> bool
+fn order(img: &[u8], at: Offset, keys: &mut [u64], i: usize, tmp: &mut [u64]) -> bool
     requires { ⌜ (i ≤ length (now keys)) × (length (now keys) ≤ length (now tmp)) × (at .0 ≤ 16_777_216) ⌝ }
     ensures { λ r. ⌜ Ordered (drop i (now (keys .entry))) (drop i (now (keys .exit))) r ⌝ }
 {
@@ -180,20 +180,31 @@ pub fn order(img: &[u8], at: Offset, keys: &mut [u64], i: usize, tmp: &mut [u64]
     in_turn(keys, i)
 }
 
-// Whether the regions of the entries from the cursor on are sound. keys and tmp are scratch.
-pub fn regions_sound(
+// Regions judged; if they are sound, their keys stand in order from a place of the lent slice on.
+pub enum Regions {
+    Unsound,
+    From(usize),
+}
+
+// The regions of the entries from the cursor on, judged, their keys left in `keys`; tmp is scratch.
+pub fn judge_regions(
     img: &[u8],
     g: Geometry,
     from: Cursor,
     keys: &mut [u64],
     tmp: &mut [u64],
-) -> bool
+) -> Regions
     requires { ⌜ Bounded g × Walks (now img) from × (from .left ≤ length (now keys)) × (length (now keys) ≤ length (now tmp)) ⌝ }
-    ensures { λ r. ⌜ r ≡ regionsSound (geometryView g) (entriesFrom (now (img .entry)) from) ⌝ }
+    ensures { λ r. ⌜ JudgesRegions (now (img .entry)) g from (now (keys .exit)) r ⌝ }
 {
     match gather(img, g, from, keys) {
-        Gathered::Bad => false,
-        Gathered::From(i) => order(img, from.at, keys, i, tmp),
+        Gathered::Bad => Regions::Unsound,
+        Gathered::From(i) => {
+            if !order(img, from.at, keys, i, tmp) {
+                return Regions::Unsound;
+            }
+            Regions::From(i)
+        }
     }
 }
 
@@ -256,7 +267,7 @@ fn all_apart(img: &[u8], from: Cursor) -> bool
     }
 }
 
-// The same without scratch.
+// Whether the regions of the entries from the cursor on are sound, without scratch.
 pub fn plainly_sound(img: &[u8], g: Geometry, from: Cursor) -> bool
     requires { ⌜ Bounded g × Walks (now img) from ⌝ }
     ensures { λ r. ⌜ r ≡ regionsSound (geometryView g) (entriesFrom (now (img .entry)) from) ⌝ }

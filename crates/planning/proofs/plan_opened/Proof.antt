@@ -22,7 +22,7 @@ volume x = volumeOf (now (x .args .img)) (geometryView (x .args .g))
 
 -- the places before, one behind the other
 abbrev first : tie.Else1 → tie.Start
-first c = c .before .before .before .before .before
+first c = c .before .before .before .before .before .before
 
 abbrev begun : tie.After-first-slot → tie.Start
 begun c = first (c .before .before .before)
@@ -38,7 +38,7 @@ named : (c : tie.Else2) → newPathGood (now (first (c .before .before) .args .p
 named c = sym (c .before .new-path-good .ensures) ∙ not-false _ (c .if2 .left)
 
 walks : (c : tie.After-first-slot) → Walks (now (begun c .args .img)) (c .first-slot .result)
-walks c = opened-walks _ _ (begun c .pre) _ (c .first-slot .ensures .0) (c .first-slot .ensures .1)
+walks c = opened-walks _ _ (begun c .pre .0) _ (c .first-slot .ensures .0) (c .first-slot .ensures .1)
 
 sought : (c : tie.After-is-found) → let x = begun (c .before .before) in
     isSome (lookup (now (x .args .path)) (entries (volume x))) ≡ c .is-found .result
@@ -57,17 +57,17 @@ is-writable-requires : tie.Need-is-writable-requires
 is-writable-requires c κs = search needs
 
 returns : tie.Need-returns
-returns c = planned-later _ _ (c .before .before .before .before .before .pre) _ _ _ (sym (c .before .is-writable .ensures) ∙ not-true _ (c .if1 .taken))
+returns c = planned-later _ _ (c .before .before .before .before .before .before .pre .0) _ _ _ (sym (c .before .is-writable .ensures) ∙ not-true _ (c .if1 .taken))
 
 new-path-good-requires : tie.Need-new-path-good-requires
 new-path-good-requires c κs = search needs
 
 returns-2 : tie.Need-returns-2
 returns-2 c = let p = c .before .before in
-    planned-name _ _ (first p .pre) _ _ _ (current p) (sym (c .before .new-path-good .ensures) ∙ not-true _ (c .if2 .taken))
+    planned-name _ _ (first p .pre .0) _ _ _ (current p) (sym (c .before .new-path-good .ensures) ∙ not-true _ (c .if2 .taken))
 
 first-slot-requires : tie.Need-first-slot-requires
-first-slot-requires c κs = opened-super _ _ (first (c .before .before) .pre)
+first-slot-requires c κs = opened-super _ _ (first (c .before .before) .pre .0)
 
 lookup-requires : tie.Need-lookup-requires
 lookup-requires c κs = walks c
@@ -77,7 +77,7 @@ is-found-requires c κs = search needs
 
 returns-3 : tie.Need-returns-3
 returns-3 c = let f = c .before .before .before in
-    planned-live _ _ (begun f .pre) _ _ _ (current (f .before .before .before)) (named (f .before)) (sought (c .before) ∙ c .if3 .taken)
+    planned-live _ _ (begun f .pre .0) _ _ _ (current (f .before .before .before)) (named (f .before)) (sought (c .before) ∙ c .if3 .taken)
 
 nearest-live-requires : tie.Need-nearest-live-requires
 nearest-live-requires c κs = walks (looked c)
@@ -85,15 +85,15 @@ nearest-live-requires c κs = walks (looked c)
 returns-4 : tie.Need-returns-4
 returns-4 c = let e = c .before .before in
     let f = looked e in
-    planned-orphan _ _ (begun f .pre) _ _ _ (current (f .before .before .before)) (named (f .before)) (absent e)
+    planned-orphan _ _ (begun f .pre .0) _ _ _ (current (f .before .before .before)) (named (f .before)) (absent e)
     (nearest (c .before) ∙ not-true _ (c .if4 .taken))
 
 plan-places-requires : tie.Need-plan-places-requires
 plan-places-requires c κs = let e = c .before .before in
     let f = looked e in
-    let o = begun f .pre in
+    let o = begun f .pre .0 in
     let a = admitted _ _ o _ (current (f .before .before .before)) (named (f .before)) (absent e) (nearest (c .before) ∙ not-false _ (c .if4 .left)) in
-    (o, (f .first-slot .ensures .0, f .first-slot .ensures .1, f .first-slot .ensures .3), a)
+    (o, (f .first-slot .ensures .0, f .first-slot .ensures .1), a, begun f .pre .1)
 
 returns-5 : tie.Need-returns-5
 returns-5 c = search needs

@@ -6,7 +6,7 @@ use lib.ListN.{length}
 use Rattle.rules.specs.Writing.{New, newSlots, newBlocks, placeRun, placeFile}
 use Rattle.rules.specs.Refusals.{Volume, entries}
 use Rattle.geometry.specs.View.{geometryView}
-use Rattle.judging.specs.View.{volumeOf, opened-super, opened-entries}
+use Rattle.judging.specs.View.{volumeOf, opened-super}
 use Rattle.placing.specs.Site.{newOf}
 use Rattle.free_runs.specs.declared.Free.{Free}
 use Rattle.free_runs.specs.View.{freeView}
@@ -26,7 +26,7 @@ volume x = volumeOf (now (x .args .img)) (geometryView (x .args .g))
 
 -- the places before, one behind the other
 abbrev first : tie.After-slots-for → tie.Start
-first c = c .before .before .before .before
+first c = c .before .before .before .before .before
 
 abbrev sized : tie.After-slot → tie.After-slots-for
 sized c = c .before .before .before
@@ -54,7 +54,7 @@ file-is : (c : tie.After-place-file) (r : Free) → c .place-file .result ≡ r 
     placeFile (length (now (x .args .img))) (geometryView (s .slot .given .0 .1 .0)) (entries (volume x)) (newBlocks (geometryView (x .args .g)) (made x))
     ≡ freeView r
 file-is c r e = let x = first (sized (c .before .before .before)) in
-    file-says _ _ _ _ _ _ (c .place-file .ensures) e _ (opened-entries _ _ (x .pre .0) (x .args .from) (x .pre .1 .0)) _ (c .before .blocks-for .ensures)
+    file-says _ _ _ _ _ _ (c .place-file .ensures _ (x .pre .3)) e _ (c .before .blocks-for .ensures)
 
 slots-for-requires : tie.Need-slots-for-requires
 slots-for-requires c κs = search needs
@@ -76,7 +76,7 @@ place-file-requires : tie.Need-place-file-requires
 place-file-requires c κs = let s = c .before .before in
     let x = first (sized s) in
     let z = run-grown _ _ (x .pre .0) _ _ (x .pre .2) _ (run-said s) .good in
-    (x .pre .0, x .pre .1, z .field-high, z .index-fits)
+    (z .field-high, z .index-fits)
 
 enum-told-2 : tie.Need-enum-told-2
 enum-told-2 c = search needs
