@@ -129,11 +129,11 @@ module _ (s : List ℕ) (c : Cursor) (keys : List ℕ) (i : ℕ) (g : Gathered s
   sound-at-once e = sym (chain-sound (entriesFrom s c) (map (keyEntry s c) (drop i keys)) gathered-perm e)
 
   -- the keys that were put in order: the same with numbers that tell where their paths stand
-  module _ (bytes : Bytes s) (pivot : List ℕ) where
+  module _ (bytes : Bytes s) (pivot : List ℕ) (few : length pivot ≤ 511) where
     entry-le : (a b : ℕ) → Stands s (c .at .0) pivot a → Stands s (c .at .0) pivot b → keyLe s (c .at .0) a b ≡ true
         → pathLe (keyEntry s c a .path) (keyEntry s c b .path) ≡ true
     unfolding keyEntry entryAt
-    entry-le a b l m h = rw (← key-path-is s (c .at .0) a, ← key-path-is s (c .at .0) b) (stands-le s (c .at .0) pivot bytes a b l m h)
+    entry-le a b l m h = rw (← key-path-is s (c .at .0) a, ← key-path-is s (c .at .0) b) (stands-le s (c .at .0) pivot bytes few a b l m h)
 
     entry-all : (a : ℕ) → Stands s (c .at .0) pivot a → (ks : List ℕ) → All (Stands s (c .at .0) pivot) ks → All (λ b. keyLe s (c .at .0) a b ≡ true) ks
         → All (λ f. pathLe (keyEntry s c a .path) (f .path) ≡ true) (map (keyEntry s c) ks)

@@ -13,7 +13,7 @@ returns-2 c =
     let l = t .before .before .before .before .before in
     let g = l .before .before .before .before .before .before .before in
     let b = g .before .before .before .before in
-    c .chained2 .ensures ∙ sound-sorted _ _ _ _ (g .gather .ensures) (λ i. b .shared-slice-known .given i .fits) _ _ _ (l .number .ensures .keys) (t .sort-from .ensures)
+    c .chained2 .ensures ∙ sound-sorted _ _ _ _ (g .gather .ensures) (λ i. b .shared-slice-known .given i .fits) _ (l .number .ensures .few) _ _ (l .number .ensures .keys) (t .sort-from .ensures)
 
 pub paths-sound-spec : {M : Type 1} → statement M
 paths-sound-spec =
