@@ -130,14 +130,15 @@ fn deep_shuffled(entries: usize) -> Vec<Entry> {
     shuffle(deep(entries))
 }
 
-/// Names that fill their slot, in many directories, shuffled.
+/// As many directories as each has entries, all names alike but for a few bytes far behind, shuffled. A path parts from any other at its directory's
+/// number, so that numbers do not tell the entries of one directory apart.
 fn worst(entries: usize) -> Vec<Entry> {
     let directory = |path: String| Entry { kind: DIRECTORY, path: path.into_bytes(), start: 0, bytes: 0 };
-    let many = (entries - 2) / 3;
-    let room = |place: usize| format!("a room of the third floor by the number {place:05}");
+    let many = (entries - 2).isqrt();
+    let room = |place: usize| format!("the shelves of the long reading room {place:05}");
     let mut all = two();
-    all.extend((0..many).map(|place| directory(room(place))));
-    all.extend((0..entries - 2 - many).map(|place| directory(format!("{}/{:x}", room(place % many), place / many))));
+    all.extend((0..many).map(|place| directory(room(place * 1000 % 99_991))));
+    all.extend((0..entries - 2 - many).map(|place| directory(format!("{}/book {:05}", room(place % many * 1000 % 99_991), place / many))));
     shuffle(all)
 }
 

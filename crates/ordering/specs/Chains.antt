@@ -15,7 +15,7 @@ use Rattle.laws.proofs.Lists.Every.{not-both, is-false, same-test, all-weaken, 
 use Rattle.laws.proofs.Lists.Perms.{perm-all}
 use Rattle.laws.proofs.Entries.Paths.{Differ, DirectoriesLive, PathsGood, paths-says, paths-holds, paths-perm, paths-only}
 use Rattle.ordering.specs.Paths.{pathLe, noSlash, entryFollows, chainFrom, chain}
-use Rattle.ordering.specs.PathOrder.{path-refl, path-total, path-one, later-carries, later-differs, lead-none, none-leads, lead-before, follows-later, follows-leading, Fits, follows-holds}
+use Rattle.ordering.specs.PathOrder.{path-refl, path-total, path-one, later-carries, later-differs, lead-none, none-leads, lead-before, follows-later, follows-leading, Suits, follows-holds}
 
 -- ---- the live entries alone
 directory-only : (es : List Entry) (d : List ℕ) → directoryLive (only isLive es) d ≡ true → directoryLive es d ≡ true
@@ -136,10 +136,10 @@ neighbours es pre e f post w h l =
     let (a, b, c) = pairs-split Before pre (e ∷ f ∷ post) (rw w at h) in
     let there : All Seen (e ∷ f ∷ post) = (here, (λ d n. absurd (not-both _ (path-refl (f .path)) n), all-weaken (Before f) Seen behind post (b .1 .0))) in
     follows-holds (isDir e) (e .path) (f .path) (b .0 .0)
-    (leading-by (Fits (isDir e) (e .path)) es (f .path) (rw w (all-join Seen pre (e ∷ f ∷ post) (all-weaken _ Seen (λ x k. ahead x (k .0)) pre c) there)) l)
+    (leading-by (Suits (isDir e) (e .path)) es (f .path) (rw w (all-join Seen pre (e ∷ f ∷ post) (all-weaken _ Seen (λ x k. ahead x (k .0)) pre c) there)) l)
   where
     Seen : Entry → Type 0
-    Seen x = isDir x ≡ true → pathLe (f .path) (x .path) ≡ false → Fits (isDir e) (e .path) (x .path)
+    Seen x = isDir x ≡ true → pathLe (f .path) (x .path) ≡ false → Suits (isDir e) (e .path) (x .path)
 
     ahead : (x : Entry) → Before x e → Seen x
     ahead x k d n = (path-total (e .path) (x .path) k, λ q. absurd (later-differs (x .path) (e .path) k q))

@@ -35,7 +35,7 @@ pub record Gathered (s : List ℕ) (c : Cursor) (keys : List ℕ) (i : ℕ) : Ty
   pub entries : map (keyEntry s c) (drop i keys) ≡ turned (only isLive (entriesFrom s c))
 
 -- ---- the loop: what is gathered, behind what is to come
-pub record Gathering (s : List ℕ) (from : Cursor) (keys : List ℕ) (c : Cursor) (i : ℕ) : Type 0 where
+pub record GatheringLive (s : List ℕ) (from : Cursor) (keys : List ℕ) (c : Cursor) (i : ℕ) : Type 0 where
   pub walks : Walks s c
   pub room : c .left ≤ i
   pub within : i ≤ length keys
@@ -79,7 +79,7 @@ entries-next x xs ys = by (isLive x)
     by false = refl
 
 module _ (s : List ℕ) (from : Cursor) where
-  pub gather-none : (keys : List ℕ) → Walks s from → from .left ≤ length keys → Gathering s from keys from (length keys)
+  pub gather-none : (keys : List ℕ) → Walks s from → from .left ≤ length keys → GatheringLive s from keys from (length keys)
   gather-none keys w l = record {
     walks = w;
     room = l;
@@ -90,7 +90,7 @@ module _ (s : List ℕ) (from : Cursor) where
     gathered = ap (λ (ks : List ℕ). turned (only isLive (entriesFrom s from)) ++ map (keyEntry s from) ks) (drop-length keys) ∙ append-nil (turned (only isLive (entriesFrom s from)));
   }
 
-  module _ (keys : List ℕ) (c : Cursor) (i : ℕ) (at : Gathering s from keys c i) where
+  module _ (keys : List ℕ) (c : Cursor) (i : ℕ) (at : GatheringLive s from keys c i) where
     pub gather-end : entriesFrom s c ≡ [] → Gathered s from keys i
     unfolding only turned
     gather-end e = record {
@@ -104,7 +104,7 @@ module _ (s : List ℕ) (from : Cursor) where
 
       pub gather-next : (keys′ : List ℕ) (j : ℕ) → length keys′ ≡ length keys
           → drop j keys′ ≡ keepIf (liveType (h .kind)) (h .slot .0 - from .slot .0) (drop i keys)
-          → j ≤ i → i ≤ j + 1 → Gathering s from keys′ d j
+          → j ≤ i → i ≤ j + 1 → GatheringLive s from keys′ d j
       gather-next keys′ j l p less more = record {
         walks = step .walks;
         room = omega (arith, step .less, at .room);

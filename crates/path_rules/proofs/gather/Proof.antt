@@ -5,12 +5,12 @@ use borrow.Author.Needs.{needs}
 use denote.Ref.{now}
 use Rattle.index.specs.Steps.{Step}
 use Rattle.index.specs.Turns.{told-end, told-found}
-use Rattle.path_rules.specs.Gathering.{Gathering, gather-none, gather-end, gather-next}
+use Rattle.path_rules.specs.Gathering.{GatheringLive, gather-none, gather-end, gather-next}
 use Rattle.path_rules.proofs.gather.Statement.{statement}
 use Rattle.path_rules.proofs.gather.Tie as tie
 
 abbrev Inv-loop : tie.InvT-loop
-Inv-loop img from keys₀ c₀ i₀ keys c i = (length keys ≡ length keys₀) × Gathering img from keys c i
+Inv-loop img from keys₀ c₀ i₀ keys c i = (length keys ≡ length keys₀) × GatheringLive img from keys c i
 
 abbrev μ-loop : tie.MeasureT-loop
 μ-loop img from keys₀ c₀ i₀ keys c i = c .left
