@@ -17,7 +17,7 @@ use Rattle.rules.specs.Regions.{regionGood, fileRegionGood, withinData, regions
 use Rattle.laws.proofs.Index.Entries.{IsRun, IsUnusable, run-bare, unusable-kind, of-walk}
 use Rattle.laws.proofs.Lists.Every.{all-weaken, all-and, all-says, pairs-weaken}
 use Rattle.ordering.specs.Order.{turned, Sorted}
-use Rattle.ordering.specs.Keys.{numberOf, keyPath, keyLe}
+use Rattle.ordering.specs.Keys.{numberOf, keyRest, keyLe}
 use Rattle.ordering.specs.Paths.{pathLe}
 use Rattle.ordering.specs.Turning.{turned-perm}
 use Rattle.ordering.specs.Regions.{regionKey, hasRegion, keyStart, keyEnd, inTurn, Small, all-filled, in-turn-ascends, in-turn-apart, in-turn-decides}
@@ -188,7 +188,7 @@ number-le s at a b h = by (eqb (a / 65_536) (b / 65_536)) refl
   where
     by : (t : Bool) → eqb (a / 65_536) (b / 65_536) ≡ t → a / 65_536 ≤ b / 65_536
     by true e = omega (arith, eqb-true (a / 65_536) (b / 65_536) e)
-    by false e = omega (arith, ltb-true (a / 65_536) (b / 65_536) (sym (pick-false (pathLe (keyPath s at a) (keyPath s at b)) _ e) ∙ h))
+    by false e = omega (arith, ltb-true (a / 65_536) (b / 65_536) (sym (pick-false (pathLe (keyRest s at a) (keyRest s at b)) _ e) ∙ h))
 
 module _ (keys : List ℕ) where
   pub in-turn : true ≡ inTurn 0 keys → Ordered keys keys true
