@@ -9,9 +9,12 @@ use Rattle.rules.specs.Index.{Entry, entry, unused, itemAt, entriesOf, slotByte
 use Rattle.rules.specs.Index.Walk.{walkAll, slotsOf, walk-none}
 use Rattle.rules.specs.Index.Items.{faultless, headOf, entryType, Stands, sound-entry, sound-unused, rest-sound, entries-entry, entries-unused, type-drop}
 use Rattle.slots.specs.declared.Head.{Head}
-use Rattle.slots.specs.View.{slots-is, slot-is, head-in}
-pub use Rattle.slots.specs.View.{HeadIn}
+use Rattle.slots.specs.declared.Spot.{Spot}
+use Rattle.slots.specs.View.{spotView, slots-is, slot-is, entry-in, spot-view, spot-in, head-spot}
+pub use Rattle.slots.specs.View.{HeadIn, SpotIn}
 use Rattle.index.specs.declared.Cursor.{Cursor}
+use Rattle.index.specs.declared.Stop.{Stop}
+use Rattle.index.specs.declared.Stop.the-variants.{End as noMore, At}
 use Rattle.index.specs.declared.Next.{Next}
 use Rattle.index.specs.declared.Next.the-variants.{End, Found}
 use Rattle.index.specs.View.{Inside, itemsFrom, headView, Past, past-items, past-inside}
@@ -25,19 +28,33 @@ pub record Walks (s : List ℕ) (c : Cursor) : Type 0 where
   pub inside : Inside s c
   pub sound : faultless (itemsFrom s c) ≡ true
 
+-- a step to the entry at a spot
+pub record Reached (s : List ℕ) (c : Cursor) (p : Spot) (d : Cursor) : Type 0 where
+  pub entries : entriesFrom s c ≡ spotView s p ∷ entriesFrom s d
+  pub walks : Walks s d
+  pub less : d .left < c .left
+  pub spot : SpotIn s p
+  pub view : spotView s p ≡ headOf (p .slot .0) (drop (p .at .0) s)
+  pub place : p .at .0 + 64 * c .slot .0 ≡ c .at .0 + 64 * p .slot .0  -- as far apart in bytes as in slots
+  pub after : d .at .0 ≡ p .at .0 + 64 * spotView s p .slots
+  pub number : d .slot .0 ≡ p .slot .0 + spotView s p .slots
+  pub ahead : c .slot .0 ≤ p .slot .0
+  pub ends : d .slot .0 + d .left ≡ c .slot .0 + c .left  -- both walks end at one slot
+
+unfoldable pub Stops : List ℕ → Cursor → Stop → Type 0
+Stops s c noMore = entriesFrom s c ≡ []
+Stops s c (At p d) = Reached s c p d
+
+-- a step to an entry whose numbers are read
 pub record Step (s : List ℕ) (c : Cursor) (h : Head) (d : Cursor) : Type 0 where
   pub entries : entriesFrom s c ≡ headView s h ∷ entriesFrom s d
   pub walks : Walks s d
   pub less : d .left < c .left
   pub head : HeadIn s h
-  pub view : headView s h ≡ headOf (h .slot .0) (drop (h .at .0) s)
-  pub place : h .at .0 + 64 * c .slot .0 ≡ c .at .0 + 64 * h .slot .0  -- as far apart in bytes as in slots
+  pub place : h .at .0 + 64 * c .slot .0 ≡ c .at .0 + 64 * h .slot .0
   pub after : d .at .0 ≡ h .at .0 + 64 * h .slots
   pub number : d .slot .0 ≡ h .slot .0 + h .slots
-  pub ahead : c .slot .0 ≤ h .slot .0
-  pub ends : d .slot .0 + d .left ≡ c .slot .0 + c .left  -- both walks end at one slot
 
--- what the answer of a step says
 unfoldable pub Told : List ℕ → Cursor → Next → Type 0
 Told s c End = entriesFrom s c ≡ []
 Told s c (Found h d) = Step s c h d
@@ -47,38 +64,62 @@ slots-entry : (e : Entry) → e .slots ≡ slotsOf (entry e)
 unfolding slotsOf
 slots-entry e = refl
 
-module _ (s : List ℕ) (c : Cursor) (walks : Walks s c) (more : 0 < c .left) where
-  pub slots-left : entryType (getD s (c .at .0) 0) ≡ true → (h : Head) → headView s h ≡ headOf (c .slot .0) (drop (c .at .0) s) → h .slots ≤ c .left
-  slots-left t h view =
-      let st = sound-entry (c .left) (c .slot .0) (drop (c .at .0) s) more (walks .sound) (ap entryType (type-drop s (c .at .0)) ∙ t) in
-      omega (arith, slots-is s (c .at .0) (c .slot .0) h view, st .fits)
+module _ (s : List ℕ) (c : Cursor) (walks : Walks s c) (more : 0 < c .left) (type : entryType (getD s (c .at .0) 0) ≡ true) where
+  abbrev here : Entry
+  here = headOf (c .slot .0) (drop (c .at .0) s)
 
-  pub step-found : entryType (getD s (c .at .0) 0) ≡ true → (h : Head) (d : Cursor)
-      → headView s h ≡ headOf (c .slot .0) (drop (c .at .0) s) → h .at .0 ≡ c .at .0 → h .slots ≤ 256 → Past c (h .slots) d
-      → Step s c h d
-  step-found t h d view place few past =
-      let k : ℕ = c .slot .0 in
-      let a : List ℕ = drop (c .at .0) s in
-      let st : Stands (c .left) k a = sound-entry (c .left) k a more (walks .sound) (ap entryType (type-drop s (c .at .0)) ∙ t) in
-      let n : h .slots ≡ headOf k a .slots = slots-is s (c .at .0) k h view in
-      let r : itemsFrom s d ≡ walkAll (c .left - headOf k a .slots) (k + headOf k a .slots) (drop (slotBytes * headOf k a .slots) a) = rw n at (past-items s c (h .slots) d past) in
-      let i : Inside s c = walks .inside in
-      let number : h .slot .0 ≡ k = slot-is s (c .at .0) k h view in
-      record {
-        entries = entries-entry (c .left) k a more (headOf k a) (st .item) ∙ rw (view, r);
-        walks = record {
-          inside = past-inside s c (h .slots) d past i (slots-left t h view);
-          sound = rw r (rest-sound (c .left) k a more (walks .sound) (entry (headOf k a)) (st .item) (headOf k a .slots) (slots-entry (headOf k a)));
-        };
-        less = omega (arith, past .left, n, st .low);
-        head = head-in s (c .at .0) k h view (c .left) st (i .fits) (i .short) place few;
-        view = view ∙ ap₂ (λ (j p : ℕ). headOf j (drop p s)) (sym number) (sym place);
-        place = omega (arith, place, number);
-        after = omega (arith, past .at, place);
-        number = omega (arith, past .slot, number);
-        ahead = omega (arith, number);
-        ends = omega (arith, past .slot, past .left, slots-left t h view);
+  stands : Stands (c .left) (c .slot .0) (drop (c .at .0) s)
+  stands = sound-entry (c .left) (c .slot .0) (drop (c .at .0) s) more (walks .sound) (ap entryType (type-drop s (c .at .0)) ∙ type)
+
+  module _ (n : ℕ) (count : n ≡ here .slots) where
+    pub slots-left : n ≤ c .left
+    slots-left = omega (arith, count, stands .fits)
+
+    module _ (d : Cursor) (past : Past c n d) where
+      behind : itemsFrom s d ≡ walkAll (c .left - here .slots) (c .slot .0 + here .slots) (drop (slotBytes * here .slots) (drop (c .at .0) s))
+      behind = rw count at (past-items s c n d past)
+
+      pub behind-walks : Walks s d
+      behind-walks = record {
+        inside = past-inside s c n d past (walks .inside) slots-left;
+        sound = rw behind (rest-sound (c .left) (c .slot .0) (drop (c .at .0) s) more (walks .sound) (entry here) (stands .item) (here .slots) (slots-entry here));
       }
+
+      pub behind-less : d .left < c .left
+      behind-less = omega (arith, past .left, count, stands .low)
+
+      pub reached : (p : Spot) → p .at .0 ≡ c .at .0 → p .slot .0 ≡ c .slot .0 → p .kind ≡ getD s (c .at .0) 0 → n ≤ 256 → Reached s c p d
+      reached p place number kind few =
+          let view : spotView s p ≡ here = spot-view s (c .at .0) (c .slot .0) p place number kind type in
+          let slots : n ≡ spotView s p .slots = count ∙ ap (λ (e : Entry). e .slots) (sym view) in
+          record {
+            entries = entries-entry (c .left) (c .slot .0) (drop (c .at .0) s) more here (stands .item) ∙ rw (view, behind);
+            walks = behind-walks;
+            less = behind-less;
+            spot = spot-in s (c .at .0) (c .slot .0) p place number kind type (entry-in s (c .at .0) (c .slot .0) (c .left) stands (walks .inside .fits) (walks .inside .short) (omega (arith, count, few)));
+            view = view ∙ ap₂ (λ (j q : ℕ). headOf j (drop q s)) (sym number) (sym place);
+            place = omega (arith, place, number);
+            after = omega (arith, past .at, place, slots);
+            number = omega (arith, past .slot, number, slots);
+            ahead = omega (arith, number);
+            ends = omega (arith, past .slot, past .left, slots-left);
+          }
+
+-- the numbers of the entry at a spot
+pub step-read : (s : List ℕ) (c : Cursor) (p : Spot) (d : Cursor) → Reached s c p d → (h : Head) → headView s h ≡ headOf (p .slot .0) (drop (p .at .0) s) → h .at .0 ≡ p .at .0
+    → Step s c h d
+step-read s c p d r h view place =
+    let n : h .slots ≡ spotView s p .slots = slots-is s (p .at .0) (p .slot .0) h view ∙ ap (λ (e : Entry). e .slots) (sym (r .view)) in
+    let k : h .slot .0 ≡ p .slot .0 = slot-is s (p .at .0) (p .slot .0) h view in
+    record {
+      entries = r .entries ∙ ap (λ (e : Entry). e ∷ entriesFrom s d) (r .view ∙ sym view);
+      walks = r .walks;
+      less = r .less;
+      head = head-spot s p h (r .view ∙ sym view) place (r .spot);
+      place = omega (arith, place, k, r .place);
+      after = omega (arith, place, n, r .after);
+      number = omega (arith, k, n, r .number);
+    }
 
 -- ---- a step over an unused slot
 one-slot : (k : ℕ) → 1 ≡ slotsOf (unused k)
@@ -104,15 +145,15 @@ unfolding entriesOf
 no-more s c z = rw (z, walk-none (c .slot .0) (drop (c .at .0) s))
 
 -- the answer from further on is the answer from the start
-pub told-before : (s : List ℕ) (b c : Cursor) (r : Next) → entriesFrom s c ≡ entriesFrom s b → b .slot .0 ≤ c .slot .0 → c .slot .0 + c .left ≡ b .slot .0 + b .left → c .at .0 + 64 * b .slot .0 ≡ b .at .0 + 64 * c .slot .0
-    → Told s c r → Told s b r
-unfolding Told
-told-before s b c End e l n p t = sym e ∙ t
-told-before s b c (Found h d) e l n p st = record {
+pub stops-before : (s : List ℕ) (b c : Cursor) (r : Stop) → entriesFrom s c ≡ entriesFrom s b → b .slot .0 ≤ c .slot .0 → c .slot .0 + c .left ≡ b .slot .0 + b .left → c .at .0 + 64 * b .slot .0 ≡ b .at .0 + 64 * c .slot .0
+    → Stops s c r → Stops s b r
+unfolding Stops
+stops-before s b c noMore e l n p t = sym e ∙ t
+stops-before s b c (At q d) e l n p st = record {
   entries = sym e ∙ st .entries;
   walks = st .walks;
   less = omega (arith, st .less);
-  head = st .head;
+  spot = st .spot;
   view = st .view;
   place = omega (arith, st .place);
   after = st .after;

@@ -6,9 +6,21 @@ use mathlib.Core.List.{List, [], _∷_}
 use Rattle.rules.specs.Lists.{all, everyTwo}
 use Rattle.index.specs.declared.Cursor.{Cursor}
 use Rattle.slots.specs.declared.Head.{Head}
+use Rattle.slots.specs.declared.Spot.{Spot}
+use Rattle.index.specs.declared.Stop.{Stop}
+use Rattle.index.specs.declared.Stop.the-variants.{End as noMore, At}
 use Rattle.index.specs.declared.Next.{Next}
 use Rattle.index.specs.declared.Next.the-variants.{End, Found}
-use Rattle.index.specs.Steps.{entriesFrom, Told, Step}
+use Rattle.index.specs.Steps.{entriesFrom, Stops, Reached, Told, Step}
+
+module _ (s : List ℕ) (c : Cursor) (r : Stop) (stops : Stops s c r) where
+  pub stops-end : r ≡ noMore → entriesFrom s c ≡ []
+  unfolding Stops
+  stops-end e = rw e at stops
+
+  pub stops-at : (p : Spot) (d : Cursor) → r ≡ At p d → Reached s c p d
+  unfolding Stops
+  stops-at p d e = rw e at stops
 
 module _ (s : List ℕ) (c : Cursor) (r : Next) (told : Told s c r) where
   pub told-end : r ≡ End → entriesFrom s c ≡ []

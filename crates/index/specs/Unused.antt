@@ -12,8 +12,6 @@ use Rattle.rules.specs.Index.Laws.{unusedFrom}
 use Rattle.rules.specs.Index.Walk.{walk-none, walk-unused, walk-entry}
 use Rattle.rules.specs.Index.Items.{headOf, entryType, type-drop, sound-entry}
 use Rattle.rules.specs.Writing.{startsUnused, itemSlot, lowestUnused}
-use Rattle.slots.specs.declared.Head.{Head}
-use Rattle.slots.specs.View.{headView, slots-is}
 use Rattle.index.specs.declared.Cursor.{Cursor}
 use Rattle.index.specs.declared.Unused.{Unused}
 use Rattle.index.specs.declared.Unused.the-variants.{Nothing, At}
@@ -79,13 +77,12 @@ module _ (s : List ℕ) (c : Cursor) (walks : Walks s c) (more : 0 < c .left) wh
       walk-unused (c .left) (c .slot .0) (drop (c .at .0) s) more (c .slot .0) (item-is s c walks more t)
       ∙ ap (λ (is : List Item). unused (c .slot .0) ∷ is) (sym (past-items s c 1 d past))
 
-  module _ (t : entryType (getD s (c .at .0) 0) ≡ true) (h : Head) (view : headView s h ≡ headOf (c .slot .0) (drop (c .at .0) s)) (d : Cursor) (past : Past c (h .slots) d) where
+  module _ (t : entryType (getD s (c .at .0) 0) ≡ true) (m : ℕ) (count : m ≡ headOf (c .slot .0) (drop (c .at .0) s) .slots) (d : Cursor) (past : Past c m d) where
     over-entry : itemsFrom s c ≡ entry (headOf (c .slot .0) (drop (c .at .0) s)) ∷ itemsFrom s d
     over-entry =
         let e : Entry = headOf (c .slot .0) (drop (c .at .0) s) in
-        let n : h .slots ≡ e .slots = slots-is s (c .at .0) (c .slot .0) h view in
         walk-entry (c .left) (c .slot .0) (drop (c .at .0) s) more e (sound-entry (c .left) (c .slot .0) (drop (c .at .0) s) more (walks .sound) (ap entryType (type-drop s (c .at .0)) ∙ t) .item)
-        ∙ ap (λ (is : List Item). entry e ∷ is) (sym (rw n at (past-items s c (h .slots) d past)))
+        ∙ ap (λ (is : List Item). entry e ∷ is) (sym (rw count at (past-items s c m d past)))
 
 -- ---- the search from slot `first` on: all slots up to the cursor's are unused
 abbrev pub lowestFrom : ℕ → List ℕ → ℕ → Cursor → Option ℕ
@@ -100,11 +97,11 @@ module _ (n : ℕ) (s : List ℕ) (first : ℕ) (c : Cursor) (few : c .slot .0 -
   search-end z = rw (z, walk-none (c .slot .0) (drop (c .at .0) s)) (lowest-end n first (c .slot .0 - first) few)
 
   module _ (walks : Walks s c) (more : 0 < c .left) where
-    pub search-entry : entryType (getD s (c .at .0) 0) ≡ true → (h : Head) → headView s h ≡ headOf (c .slot .0) (drop (c .at .0) s) → (d : Cursor) → Past c (h .slots) d
+    pub search-entry : entryType (getD s (c .at .0) 0) ≡ true → (m : ℕ) → m ≡ headOf (c .slot .0) (drop (c .at .0) s) .slots → (d : Cursor) → Past c m d
         → (next : ℕ) → next ≡ d .slot .0 → lowestFrom n s next d ≡ lowestFrom n s first c
-    search-entry t h view d past next e =
+    search-entry t m count d past next e =
         search-first n s next d e
-        ∙ sym (rw (over-entry s c walks more t h view d past) (lowest-entry n first (c .slot .0 - first) few (headOf (c .slot .0) (drop (c .at .0) s)) (itemsFrom s d)))
+        ∙ sym (rw (over-entry s c walks more t m count d past) (lowest-entry n first (c .slot .0 - first) few (headOf (c .slot .0) (drop (c .at .0) s)) (itemsFrom s d)))
 
     pub search-unused : first ≤ c .slot .0 → entryType (getD s (c .at .0) 0) ≡ false → (d : Cursor) → Past c 1 d → lowestFrom n s first d ≡ lowestFrom n s first c
     search-unused low t d past =

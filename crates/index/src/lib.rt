@@ -1,6 +1,7 @@
 // The index area: what stands at a slot, whether the index is sound, the walk from entry to entry, and unused slots.
 
 use slots::Head;
+use slots::Spot;
 use units::Offset;
 use units::Slot;
 ghost use mathlib.Core.Path.{_≡_};
@@ -10,7 +11,7 @@ ghost use lib.ListN.{length, getD, drop};
 ghost use Rattle.rules.specs.Index.Items.{faultless, entryType};
 ghost use Rattle.rules.specs.Writing.{lowestUnused};
 ghost use Rattle.index.specs.View.{runStep, stepAt, Inside, Past, itemsFrom};
-ghost use Rattle.index.specs.Steps.{Walks, Told};
+ghost use Rattle.index.specs.Steps.{Walks, Stops, Told};
 ghost use Rattle.index.specs.Unused.{unusedView};
 
 // Where a walk stands: the place of the next slot, its number, and how many slots are left.
@@ -20,6 +21,13 @@ pub struct Cursor {
     pub left: u64,
 }
 
+// What a walk meets next: an entry, by where it stands, and the cursor behind it.
+pub enum Stop {
+    End,
+    At(Spot, Cursor),
+}
+
+// The same with the entry's numbers.
 pub enum Next {
     End,
     Found(Head, Cursor),
@@ -90,29 +98,46 @@ pub fn walk_sound(img: &[u8], from: Cursor) -> bool
 
 // ---- from entry to entry
 
-// The entry at the cursor, and the cursor behind it.
-fn found(img: &[u8], c: Cursor) -> Next
+// Where the entry at the cursor stands, and the cursor behind it.
+fn spot(img: &[u8], c: Cursor) -> Stop
     requires { ⌜ Walks (now img) c × (0 < c .left) × (entryType (getD (now img) (c .at .0) 0) ≡ true) ⌝ }
-    ensures { λ r. ⌜ Told (now (img .entry)) c r ⌝ }
+    ensures { λ r. ⌜ Stops (now (img .entry)) c r ⌝ }
 {
-    let head = slots::head_at(img, c.at, c.slot);
-    let rest = past(c, head.slots);
-    Next::Found(head, rest)
+    let at = c.at;
+    let slot = c.slot;
+    let kind = slots::kind_at(img, at);
+    let rest = past(c, slots::entry_slots(img, at));
+    let here = Spot { at, kind, slot };
+    Stop::At(here, rest)
 }
 
-// The next entry from the cursor on: unused slots are passed over.
-pub fn next_entry(img: &[u8], from: Cursor) -> Next
+// The next entry from the cursor on, by where it stands: unused slots are passed over.
+pub fn next_spot(img: &[u8], from: Cursor) -> Stop
     requires { ⌜ Walks (now img) from ⌝ }
-    ensures { λ r. ⌜ Told (now (img .entry)) from r ⌝ }
+    ensures { λ r. ⌜ Stops (now (img .entry)) from r ⌝ }
 {
     let mut c = from;
     while 0 < c.left {
         if slots::is_entry(slots::kind_at(img, c.at)) {
-            return found(img, c);
+            return spot(img, c);
         }
         c = past(c, 1);
     }
-    Next::End
+    Stop::End
+}
+
+// The same with all numbers of the entry.
+pub fn next_entry(img: &[u8], from: Cursor) -> Next
+    requires { ⌜ Walks (now img) from ⌝ }
+    ensures { λ r. ⌜ Told (now (img .entry)) from r ⌝ }
+{
+    match next_spot(img, from) {
+        Stop::End => Next::End,
+        Stop::At(p, rest) => {
+            let head = slots::head_at(img, p.at, p.slot);
+            Next::Found(head, rest)
+        }
+    }
 }
 
 // ---- unused slots
@@ -131,8 +156,7 @@ pub fn lowest_unused(img: &[u8], from: Cursor, n: u64) -> Unused
     let mut first = from.slot;
     while 0 < c.left {
         if slots::is_entry(slots::kind_at(img, c.at)) {
-            let head = slots::head_at(img, c.at, c.slot);
-            c = past(c, head.slots);
+            c = past(c, slots::entry_slots(img, c.at));
             first = c.slot;
         } else {
             c = past(c, 1);

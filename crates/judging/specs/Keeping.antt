@@ -31,9 +31,6 @@ keeps-good s g v e c items keys i h = (e, subst (λ (is : List Item). HasRegions
 
 -- ---- what it says, by what it is
 module _ (s : List ℕ) (v : Verdict Volume) (keys : List ℕ) (r : Kept) (told : Keeps s v keys r) where
-  pub keeps-of : (w : Verdict Volume) → w ≡ v → Keeps s w keys r
-  keeps-of w e = rw e told
-
   pub kept-refused : (n : ℕ) → r ≡ Refused n → v ≡ refused n
   unfolding Keeps
   kept-refused n e = rw e at told

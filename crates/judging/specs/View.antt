@@ -5,7 +5,7 @@ use mathlib.Core.List.{List}
 use lib.ListN.{length}
 use Rattle.rules.specs.SuperBlock.{Geometry}
 use Rattle.rules.specs.Index.{itemsOf, entriesOf}
-use Rattle.rules.specs.Refusals.{Verdict, refused, accepted, Volume, entries, judgeIndex, judge}
+use Rattle.rules.specs.Refusals.{Verdict, refused, accepted, Volume, entries, judge}
 use Rattle.rules.specs.Refusals.Laws.{judge-opens}
 use Rattle.geometry.specs.View.{geometryView}
 use Rattle.geometry.specs.declared.Geometry.{Geometry as Held}
@@ -17,10 +17,6 @@ use Rattle.super_block.specs.Ends.{sound-walks}
 use Rattle.judging.specs.declared.Judged.{Judged}
 use Rattle.judging.specs.declared.Judged.the-variants.{Refused, Good}
 
--- the super-block was found good, with the geometry g
-abbrev pub Super : List ℕ → Held → Type 0
-Super s g = GoodSuper s g
-
 -- a volume is its geometry and what its index yields
 abbrev pub volumeOf : List ℕ → Geometry → Volume
 volumeOf s g = record { geometry = g; items = itemsOf s g }
@@ -28,9 +24,6 @@ volumeOf s g = record { geometry = g; items = itemsOf s g }
 unfoldable pub judgedView : List ℕ → Judged → Verdict Volume
 judgedView s (Refused n) = refused n
 judgedView s (Good g) = accepted (volumeOf s (geometryView g))
-
-abbrev pub indexJudged : List ℕ → Geometry → Verdict Volume
-indexJudged s g = judgeIndex s g (itemsOf s g)
 
 -- ---- an image that opens, with the geometry held
 abbrev pub Opened : List ℕ → Held → Type 0

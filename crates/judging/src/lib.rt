@@ -4,15 +4,20 @@ use geometry::Geometry;
 use regions::Regions;
 use super_block::SuperBlock;
 ghost use mathlib.Core.Path.{_≡_};
-ghost use Prim.Native.Nat.{_≤_};
+ghost use mathlib.Core.Bool.{true};
+ghost use mathlib.Core.List.{List};
+ghost use Prim.Native.Nat.{ℕ, _/_, _≤_, min};
 ghost use lib.ListN.{length};
 ghost use Rattle.rules.specs.Refusals.{judge};
-ghost use Rattle.geometry.specs.View.{geometryView};
-ghost use Rattle.judging.specs.View.{Super, judgedView, indexJudged};
+ghost use Rattle.super_block.specs.View.{Passed};
+ghost use Rattle.judging.specs.View.{judgedView};
 ghost use Rattle.judging.specs.Keeping.{Keeps};
 
 // The most slots between the two ends of an index, and so the most regions or paths that it has.
 pub const MOST: usize = 4_094;
+
+// Scratch for so many slots is small enough to be cleared at no cost.
+pub const FEW: usize = 512;
 
 pub enum Judged {
     Refused(u8),
@@ -25,10 +30,18 @@ pub enum Kept {
     Good(Geometry, usize),
 }
 
-// 6, 7 and 8: three passes over the whole index. The paths are judged before the regions, whose keys are to stay in `keys`.
-fn judge_index(img: &[u8], g: Geometry, keys: &mut [u64], tmp: &mut [u64]) -> Kept
-    requires { ⌜ Super (now img) g × (4_094 ≤ length (now keys)) × (length (now keys) ≤ length (now tmp)) ⌝ }
-    ensures { λ r. ⌜ Keeps (now (img .entry)) (indexJudged (now (img .entry)) (geometryView g)) (now (keys .exit)) r ⌝ }
+// Whether an index of this geometry has few slots.
+pub fn has_few(g: Geometry) -> bool
+    ensures { λ r. ⌜ (r ≡ true → g .index / 64 ≤ 512) ⌝ }
+{
+    units::slots_in(g.index) <= FEW as u64
+}
+
+// 6, 7 and 8: three passes over the whole index. The paths are judged before the regions, whose keys are to stay in `keys`. Both slices have room
+// for all slots, as it must be where they are many.
+pub fn judge_index(img: &[u8], g: Geometry, keys: &mut [u64], tmp: &mut [u64]) -> Kept
+    requires { ⌜ Passed (now img) g × (min (g .index / 64) 4_094 ≤ length (now keys)) × (length (now keys) ≤ length (now tmp)) ⌝ }
+    ensures { λ r. ⌜ Keeps (now (img .entry)) (judge (now (img .entry))) (now (keys .exit)) r ⌝ }
 {
     if !super_block::index_sound(img, g) {
         return Kept::Refused(6);
@@ -46,24 +59,46 @@ fn judge_index(img: &[u8], g: Geometry, keys: &mut [u64], tmp: &mut [u64]) -> Ke
     }
 }
 
-// Judges with lent scratch and keeps the keys of the regions.
-pub fn judge_keeping(img: &[u8], keys: &mut [u64], tmp: &mut [u64]) -> Kept
-    requires { ⌜ (4_094 ≤ length (now keys)) × (length (now keys) ≤ length (now tmp)) ⌝ }
-    ensures { λ r. ⌜ Keeps (now (img .entry)) (judge (now (img .entry))) (now (keys .exit)) r ⌝ }
+// The judgement without the keys.
+fn verdict(kept: Kept) -> Judged
+    ensures { λ r. ⌜ ((s : List ℕ) (keys : List ℕ) → Keeps s (judge s) keys kept → judgedView s r ≡ judge s) ⌝ }
 {
-    match super_block::judge_super(img) {
-        SuperBlock::Refused(n) => Kept::Refused(n),
-        SuperBlock::Good(g) => judge_index(img, g, keys, tmp),
+    match kept {
+        Kept::Refused(n) => Judged::Refused(n),
+        Kept::Good(g, _) => Judged::Good(g),
     }
+}
+
+// An index of few slots, judged with little scratch: what is cleared of it counts there.
+fn judge_few(img: &[u8], g: Geometry) -> Judged
+    requires { ⌜ Passed (now img) g × (g .index / 64 ≤ 512) ⌝ }
+    ensures { λ r. ⌜ judgedView (now (img .entry)) r ≡ judge (now (img .entry)) ⌝ }
+{
+    let mut keys = [0u64; FEW];
+    let mut tmp = [0u64; FEW];
+    verdict(judge_index(img, g, &mut keys, &mut tmp))
+}
+
+// Any index.
+fn judge_many(img: &[u8], g: Geometry) -> Judged
+    requires { ⌜ Passed (now img) g ⌝ }
+    ensures { λ r. ⌜ judgedView (now (img .entry)) r ≡ judge (now (img .entry)) ⌝ }
+{
+    let mut keys = [0u64; MOST];
+    let mut tmp = [0u64; MOST];
+    verdict(judge_index(img, g, &mut keys, &mut tmp))
 }
 
 pub fn judge(img: &[u8]) -> Judged
     ensures { λ r. ⌜ judgedView (now (img .entry)) r ≡ judge (now (img .entry)) ⌝ }
 {
-    let mut keys = [0u64; MOST];
-    let mut tmp = [0u64; MOST];
-    match judge_keeping(img, &mut keys, &mut tmp) {
-        Kept::Refused(n) => Judged::Refused(n),
-        Kept::Good(g, _) => Judged::Good(g),
+    match super_block::judge_super(img) {
+        SuperBlock::Refused(n) => Judged::Refused(n),
+        SuperBlock::Good(g) => {
+            if has_few(g) {
+                return judge_few(img, g);
+            }
+            judge_many(img, g)
+        }
     }
 }

@@ -1,9 +1,10 @@
 -- A reader of a name: what is left of it decides, from where the reader stands, as the whole does.
-use Prim.Native.Nat.{ℕ, _+_, _≤_, _<_}
+use Prim.Native.Nat.{ℕ, zero, suc, _+_, _-_, _≤_, _<_}
 use mathlib.Core.Path.{_≡_, refl, sym, ap, ap₂, _∙_}
 use mathlib.Core.Bool.{Bool, true, false, _&&_, not}
 use mathlib.Core.List.{List, [], _∷_}
 use native.Mathlib.Omega.{arith}
+use native.Mathlib.Decide.{decLt}
 use lib.ListN.{length, getD, drop}
 use lib.Dec.{eqb, ltb}
 use borrow.Author.Tests.{ne-eqb, not-true}
@@ -91,6 +92,17 @@ on-end : (path : List ℕ) (r : Reader) (part : ℕ) → Reached path [] r part 
 unfolding pathGood
 on-end path r part h = ap₂ (λ a b. a && b) (from-nil _ _ _ ∙ h .1) (ap (λ q. eqb q 3) (run-nil part ∙ h .2) ∙ run-parts path)
 
+-- every byte of s from place a up to b is a plain character
+abbrev pub Plain : List ℕ → ℕ → ℕ → Type 0
+Plain s a b = (j : ℕ) → a ≤ j → j < b → (asciiGood (getD s j 0) && turnsNothing (getD s j 0)) ≡ true
+
+pub plain-more : (s : List ℕ) (a b : ℕ) → Plain s a b → (asciiGood (getD s b 0) && turnsNothing (getD s b 0)) ≡ true → Plain s a (b + 1)
+plain-more s a b h e j k l = by (decLt j b)
+  where
+    by : Dec (j < b) → (asciiGood (getD s j 0) && turnsNothing (getD s j 0)) ≡ true
+    by (yes m) = h j k m
+    by (no m) = let f : j ≡ b = omega arith in rw f e
+
 -- ---- the loop over a path, at byte i of s
 abbrev pub PathAt : List ℕ → Reader → ℕ → ℕ → Type 0
 PathAt s r part i = (i ≤ length s) × (i + length (upToZero (drop i s)) ≡ length (upToZero s)) × Reached (upToZero s) (upToZero (drop i s)) r part
@@ -114,6 +126,16 @@ module _ (s : List ℕ) (r : Reader) (part i : ℕ) (h : PathAt s r part i) wher
 
   pub path-ended : upToZero (drop i s) ≡ [] → (e : Stored) → e ≡ pick (eqb (r .due) 0 && eqb part 3) (Bytes i) Bad → In pathGood s e
   path-ended z e f = ended-in pathGood s i _ z (h .1) (on-end (upToZero s) r part (rw (← z) (h .2))) e f
+
+-- any number of plain bytes, the last of them before place n
+module _ (s : List ℕ) (r : Reader) (z : r .due ≡ 0) (n : ℕ) (m : n ≤ length s) where
+  run : (k i : ℕ) → i + k ≡ n → Plain s i n → PathAt s r 3 i → PathAt s r 3 n
+  run zero i e p h = let f : i ≡ n = omega arith in rw (← f) h
+  run (suc k) i e p h =
+      run k (i + 1) (omega arith) (λ j a b. p j (omega arith) b) (plain-turn s r 3 i h (omega arith) z (p i (omega arith) (omega arith)))
+
+  pub plain-run : (i : ℕ) → i ≤ n → Plain s i n → PathAt s r 3 i → PathAt s r 3 n
+  plain-run i l p h = run (n - i) i (omega arith) p h
 
 -- ---- the loop over a volume name, at byte i of s
 abbrev pub NameAt : List ℕ → Reader → ℕ → Type 0

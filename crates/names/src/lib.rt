@@ -4,6 +4,7 @@ ghost use mathlib.Core.Path.{_≡_};
 ghost use mathlib.Core.Bool.{_&&_};
 ghost use mathlib.Core.List.{List, _∷_};
 ghost use Prim.Native.Nat.{ℕ, _≤_};
+ghost use lib.ListN.{length};
 ghost use lib.Dec.{eqb, ltb};
 ghost use Rattle.rules.specs.Lists.{pick};
 ghost use Rattle.rules.specs.Fields.{upToZero, hasZero};
@@ -12,7 +13,7 @@ ghost use Rattle.rules.specs.Index.{nameGood};
 ghost use Rattle.names.specs.Automaton.{partStep};
 ghost use Rattle.names.specs.Masks.{bitOf, turnsNothing};
 ghost use Rattle.names.specs.Texts.{asciiGood, goodFrom};
-ghost use Rattle.names.specs.Reader.{goodAt, In};
+ghost use Rattle.names.specs.Reader.{goodAt, In, Plain};
 
 // ---- characters of one byte
 
@@ -197,6 +198,21 @@ fn ended(reader: Reader, part: u8, n: usize) -> Stored
     Stored::Bad
 }
 
+// Where the plain characters from place `from` on end.
+fn plain_from(s: &[u8], from: usize) -> usize
+    requires { ⌜ from ≤ length (now s) ⌝ }
+    ensures { λ r. ⌜ (from ≤ r) × (r ≤ length (now (s .entry))) × Plain (now (s .entry)) from r ⌝ }
+{
+    let mut i = from;
+    while i < s.len() {
+        if !is_plain(s[i]) {
+            return i;
+        }
+        i += 1;
+    }
+    i
+}
+
 // The name rule, the rule on parts and the search for the zero, in one pass. Most bytes are plain characters, which begin and end nothing.
 fn path_in(s: &[u8]) -> Stored
     ensures { λ r. ⌜ In pathGood (now (s .entry)) r ⌝ }
@@ -209,7 +225,7 @@ fn path_in(s: &[u8]) -> Stored
         if reader.due == 0 {
             if is_plain(b) {
                 part = 3;
-                i += 1;
+                i = plain_from(s, i + 1);
                 continue;
             }
         }

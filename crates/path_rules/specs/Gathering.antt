@@ -20,10 +20,10 @@ use Rattle.ordering.specs.Keys.{placeOf, keyPath, keyLe}
 use Rattle.ordering.specs.Paths.{pathLe, noSlash, follows, entryFollows, chainFrom, chain}
 use Rattle.ordering.specs.Chains.{chain-sound, chain-decides}
 use Rattle.numbering.specs.Numbers.{loaded, loaded-place, Stands, loaded-stand, stands-le, key-path-is}
-use Rattle.slots.specs.declared.Head.{Head}
-use Rattle.slots.specs.View.{headView}
+use Rattle.slots.specs.declared.Spot.{Spot}
+use Rattle.slots.specs.View.{spotView}
 use Rattle.index.specs.declared.Cursor.{Cursor}
-use Rattle.index.specs.Steps.{Walks, Step, entriesFrom}
+use Rattle.index.specs.Steps.{Walks, Reached, entriesFrom}
 
 -- the entry of the run at a key's place, in slots behind a cursor
 unfoldable pub keyEntry : List ℕ → Cursor → ℕ → Entry
@@ -45,29 +45,28 @@ pub record GatheringLive (s : List ℕ) (from : Cursor) (keys : List ℕ) (c : C
   pub gathered : turned (only isLive (entriesFrom s c)) ++ map (keyEntry s from) (drop i keys) ≡ turned (only isLive (entriesFrom s from))
 
 -- the entry that was found, by its place
-module _ (s : List ℕ) (c : Cursor) (h : Head) (d : Cursor) (step : Step s c h d) where
-  live-entry : liveType (h .kind) ≡ true → headView s h ≡ entryAt (h .slot .0) (drop (h .at .0) s)
+module _ (s : List ℕ) (c : Cursor) (e : Spot) (d : Cursor) (step : Reached s c e d) where
+  live-entry : liveType (e .kind) ≡ true → spotView s e ≡ entryAt (e .slot .0) (drop (e .at .0) s)
   live-entry t =
-      let r : runType (h .kind) ≡ true = live-run (h .kind) t in
-      step .view ∙ head-run (h .slot .0) (drop (h .at .0) s) (ap runType (type-drop s (h .at .0) ∙ sym (step .head .type r)) ∙ r)
+      let r : runType (e .kind) ≡ true = live-run (e .kind) t in
+      step .view ∙ head-run (e .slot .0) (drop (e .at .0) s) (ap runType (type-drop s (e .at .0) ∙ sym (step .spot .type r)) ∙ r)
 
-  found-entry : (from : Cursor) (k : ℕ) → k < 65_536 → h .slot .0 ≡ from .slot .0 + k → h .at .0 ≡ from .at .0 + 64 * k → liveType (h .kind) ≡ true
-      → keyEntry s from k ≡ headView s h
+  found-entry : (from : Cursor) (k : ℕ) → k < 65_536 → e .slot .0 ≡ from .slot .0 + k → e .at .0 ≡ from .at .0 + 64 * k → liveType (e .kind) ≡ true
+      → keyEntry s from k ≡ spotView s e
   unfolding keyEntry placeOf
   found-entry from k l a b t =
-      let e : k % 65_536 ≡ k = omega arith in
-      let m : from .slot .0 + k % 65_536 ≡ h .slot .0 = omega (arith, a, e) in
-      let p : from .at .0 + 64 * (k % 65_536) ≡ h .at .0 = omega (arith, b, e) in
+      let m : from .slot .0 + k % 65_536 ≡ e .slot .0 = omega (arith, a) in
+      let p : from .at .0 + 64 * (k % 65_536) ≡ e .at .0 = omega (arith, b) in
       ap₂ (λ (j q : ℕ). entryAt j (drop q s)) m p ∙ sym (live-entry t)
 
-  found-kept : (from : Cursor) (k : ℕ) → k < 65_536 → h .slot .0 ≡ from .slot .0 + k → h .at .0 ≡ from .at .0 + 64 * k → (ks : List ℕ)
-      → map (keyEntry s from) (keepIf (liveType (h .kind)) k ks) ≡ keepIf (isLive (headView s h)) (headView s h) (map (keyEntry s from) ks)
-  unfolding isLive headView keepIf
-  found-kept from k l a b ks = by (liveType (h .kind)) refl
+  found-kept : (from : Cursor) (k : ℕ) → k < 65_536 → e .slot .0 ≡ from .slot .0 + k → e .at .0 ≡ from .at .0 + 64 * k → (ks : List ℕ)
+      → map (keyEntry s from) (keepIf (liveType (e .kind)) k ks) ≡ keepIf (isLive (spotView s e)) (spotView s e) (map (keyEntry s from) ks)
+  unfolding isLive spotView keepIf
+  found-kept from k l a b ks = by (liveType (e .kind)) refl
     where
-      by : (t : Bool) → liveType (h .kind) ≡ t → map (keyEntry s from) (keepIf t k ks) ≡ keepIf t (headView s h) (map (keyEntry s from) ks)
-      by true e = ap (λ (x : Entry). x ∷ map (keyEntry s from) ks) (found-entry from k l a b e)
-      by false e = refl
+      by : (t : Bool) → liveType (e .kind) ≡ t → map (keyEntry s from) (keepIf t k ks) ≡ keepIf t (spotView s e) (map (keyEntry s from) ks)
+      by true u = ap (λ (x : Entry). x ∷ map (keyEntry s from) ks) (found-entry from k l a b u)
+      by false u = refl
 
 -- one more
 entries-next : (x : Entry) (xs ys : List Entry) → turned (only isLive xs) ++ keepIf (isLive x) x ys ≡ turned (only isLive (x ∷ xs)) ++ ys
@@ -98,12 +97,12 @@ module _ (s : List ℕ) (from : Cursor) where
       entries = ap (λ (es : List Entry). turned (only isLive es) ++ map (keyEntry s from) (drop i keys)) (sym e) ∙ at .gathered;
     }
 
-    module _ (h : Head) (d : Cursor) (step : Step s c h d) (few : from .left ≤ 65_536) where
-      pub key-small : h .slot .0 - from .slot .0 < 65_536
-      key-small = omega (arith, step .number, step .ends, at .ends, step .head .low)
+    module _ (e : Spot) (d : Cursor) (step : Reached s c e d) (few : from .left ≤ 65_536) where
+      pub key-small : e .slot .0 - from .slot .0 < 65_536
+      key-small = omega (arith, step .number, step .ends, at .ends, step .spot .low)
 
       pub gather-next : (keys′ : List ℕ) (j : ℕ) → length keys′ ≡ length keys
-          → drop j keys′ ≡ keepIf (liveType (h .kind)) (h .slot .0 - from .slot .0) (drop i keys)
+          → drop j keys′ ≡ keepIf (liveType (e .kind)) (e .slot .0 - from .slot .0) (drop i keys)
           → j ≤ i → i ≤ j + 1 → GatheringLive s from keys′ d j
       gather-next keys′ j l p less more = record {
         walks = step .walks;
@@ -114,8 +113,8 @@ module _ (s : List ℕ) (from : Cursor) where
         place = omega (arith, step .place, step .after, step .number, at .place);
         gathered =
             ap (λ (ks : List ℕ). turned (only isLive (entriesFrom s d)) ++ map (keyEntry s from) ks) p
-            ∙ ap (λ (ys : List Entry). turned (only isLive (entriesFrom s d)) ++ ys) (found-kept s c h d step from (h .slot .0 - from .slot .0) key-small (omega (arith, step .ahead, at .ahead)) (omega (arith, step .ahead, at .ahead, step .place, at .place)) (drop i keys))
-            ∙ entries-next (headView s h) (entriesFrom s d) (map (keyEntry s from) (drop i keys))
+            ∙ ap (λ (ys : List Entry). turned (only isLive (entriesFrom s d)) ++ ys) (found-kept s c e d step from (e .slot .0 - from .slot .0) key-small (omega (arith, step .ahead, at .ahead)) (omega (arith, step .ahead, at .ahead, step .place, at .place)) (drop i keys))
+            ∙ entries-next (spotView s e) (entriesFrom s d) (map (keyEntry s from) (drop i keys))
             ∙ ap (λ (es : List Entry). turned (only isLive es) ++ map (keyEntry s from) (drop i keys)) (sym (step .entries))
             ∙ at .gathered;
       }

@@ -10,33 +10,35 @@ use Rattle.rules.specs.Lists.{pick, only}
 use Rattle.rules.specs.Lists.Laws.{pick-true, pick-false}
 use Rattle.rules.specs.SuperBlock.{Geometry}
 use Rattle.rules.specs.Index.{nameField, slotAt}
+use Rattle.rules.specs.Index.Items.{headOf}
 use Rattle.rules.specs.Comparing.{looked, nameIn, entryLooked, searchLooked}
 use Rattle.rules.specs.Comparing.Laws.{looked-most, looked-end, looked-stop, looked-next}
 use Rattle.slots.specs.declared.Head.{Head}
-use Rattle.slots.specs.View.{headView, HeadIn, name-short}
+use Rattle.slots.specs.declared.Spot.{Spot}
+use Rattle.slots.specs.View.{headView, spotView, SpotIn, name-short, head-spot}
 use Rattle.index.specs.declared.Cursor.{Cursor}
-use Rattle.index.specs.Steps.{Walks, entriesFrom, Step}
+use Rattle.index.specs.Steps.{Walks, entriesFrom, Reached}
 use Rattle.paths.specs.declared.Sought.{Sought}
 use Rattle.paths.specs.declared.Hit.{Hit}
 use Rattle.paths.specs.declared.Hit.the-variants.{Nothing as noHit, Entry as hitAt}
-use Rattle.paths.specs.View.{passes, compares, nameOf, headLooked, LookedFrom, Hits, hits-none, hits-some}
+use Rattle.paths.specs.View.{passes, compares, nameOf, spotLooked, LookedFrom, Hits, hits-none, hits-some}
 use Rattle.paths.specs.Entries.{only-end, only-stop, only-next, compared-run}
 
--- ---- one head
+-- ---- one entry
 -- no name has more than 16,384 bytes, and one of them may be looked at twice
-pub head-few : (s : List ℕ) (h : Head) (what : Sought) (p : List ℕ) → HeadIn s h → headLooked s h what p ≤ 16_385
-unfolding headLooked
-head-few s h what p head = by (compares what (headView s h)) refl
+pub spot-few : (s : List ℕ) (e : Spot) (what : Sought) (p : List ℕ) → SpotIn s e → spotLooked s e what p ≤ 16_385
+unfolding spotLooked
+spot-few s e what p here = by (compares what (spotView s e)) refl
   where
-    by : (t : Bool) → compares what (headView s h) ≡ t → pick t (looked (nameOf s h) p) 0 ≤ 16_385
-    by true e = omega (arith, pick-true (looked (nameOf s h) p) 0 refl, looked-most (nameOf s h) p, name-short s h head (compared-run s p h what e))
-    by false e = omega (arith, pick-false (looked (nameOf s h) p) 0 refl)
+    by : (t : Bool) → compares what (spotView s e) ≡ t → pick t (looked (nameOf s e) p) 0 ≤ 16_385
+    by true c = omega (arith, pick-true (looked (nameOf s e) p) 0 refl, looked-most (nameOf s e) p, name-short s _ _ _ here (compared-run s p e what c))
+    by false c = omega (arith, pick-false (looked (nameOf s e) p) 0 refl)
 
--- a head that stands at its slot's place is looked at as the rules' entry is
-head-entry : (s : List ℕ) (g : Geometry) (h : Head) (what : Sought) (p : List ℕ) → h .at .0 ≡ slotAt s g (h .slot .0)
-    → entryLooked s g (compares what) p (headView s h) ≡ headLooked s h what p
-unfolding entryLooked headLooked nameIn headView
-head-entry s g h what p e = ap (λ (at : ℕ). pick (compares what (headView s h)) (looked (nameField (drop at s)) p) 0) (sym e)
+-- a spot at its slot's place is looked at as the rules' entry is
+spot-entry : (s : List ℕ) (g : Geometry) (e : Spot) (what : Sought) (p : List ℕ) → e .at .0 ≡ slotAt s g (e .slot .0)
+    → entryLooked s g (compares what) p (spotView s e) ≡ spotLooked s e what p
+unfolding entryLooked spotLooked nameIn spotView
+spot-entry s g e what p q = ap (λ (at : ℕ). pick (compares what (spotView s e)) (looked (nameField (drop at s)) p) 0) (sym q)
 
 -- ---- a search from c that has come to d and looked at n bytes
 module _ (s : List ℕ) (what : Sought) (p : List ℕ) (c : Cursor) where
@@ -70,31 +72,32 @@ module _ (s : List ℕ) (what : Sought) (p : List ℕ) (c : Cursor) where
       λ g e. sym (add-zero n) ∙ ap (λ (k : ℕ). n + k) (sym (looked-end s g _ _ p _ z)) ∙ going .count g e,
     )
 
-    module _ (h : Head) (d′ : Cursor) (step : Step s d h d′) (m : ℕ) (tried : m ≡ headLooked s h what p) where
-      here : (g : Geometry) → c .at .0 ≡ slotAt s g (c .slot .0) → entryLooked s g (compares what) p (headView s h) ≡ m
+    module _ (e : Spot) (d′ : Cursor) (step : Reached s d e d′) (m : ℕ) (tried : m ≡ spotLooked s e what p) where
+      here : (g : Geometry) → c .at .0 ≡ slotAt s g (c .slot .0) → entryLooked s g (compares what) p (spotView s e) ≡ m
       unfolding slotAt
-      here g e = head-entry s g h what p (omega (arith, e, going .place, step .place)) ∙ sym tried
+      here g q = spot-entry s g e what p (omega (arith, q, going .place, step .place)) ∙ sym tried
 
       pub going-room : n + m < 2 ^ 64
-      going-room = omega (arith, going .few, tried, head-few s h what p (step .head))
+      going-room = omega (arith, going .few, tried, spot-few s e what p (step .spot))
 
-      pub going-found : passes what p (headView s h) ≡ true → Comes (hitAt h d′) (n + m)
-      going-found t = (
-        hits-some _ _ _ h d′ (record {
-          chosen = sym (going .chosen) ∙ only-stop _ _ _ _ (step .entries) t;
-          head = step .head;
-          walks = step .walks;
-        }),
-        λ g e. ap (λ (k : ℕ). n + k) (sym (looked-stop s g _ _ p _ _ _ (step .entries) t ∙ here g e)) ∙ going .count g e,
-      )
+      pub going-found : passes what p (spotView s e) ≡ true → (h : Head) → headView s h ≡ headOf (e .slot .0) (drop (e .at .0) s) → h .at .0 ≡ e .at .0 → Comes (hitAt h d′) (n + m)
+      going-found t h view place =
+          let same : spotView s e ≡ headView s h = step .view ∙ sym view in (
+            hits-some _ _ _ h d′ (record {
+              chosen = sym (going .chosen) ∙ rw (← same) (only-stop _ _ _ _ (step .entries) t);
+              head = head-spot s e h same place (step .spot);
+              walks = step .walks;
+            }),
+            λ g q. ap (λ (k : ℕ). n + k) (sym (looked-stop s g _ _ p _ _ _ (step .entries) t ∙ here g q)) ∙ going .count g q,
+          )
 
-      pub going-next : passes what p (headView s h) ≡ false → Going d′ (n + m)
+      pub going-next : passes what p (spotView s e) ≡ false → Going d′ (n + m)
       going-next t = record {
         walks = step .walks;
         chosen = only-next _ _ _ _ (step .entries) t ∙ going .chosen;
         place = omega (arith, going .place, step .place, step .after, step .number);
-        count = λ g e.
-            let next : lookedFrom g d ≡ entryLooked s g (compares what) p (headView s h) + lookedFrom g d′ = looked-next s g _ _ p _ _ _ (step .entries) t in
-            omega (arith, next, here g e, going .count g e);
-        few = omega (arith, going .few, step .less, tried, head-few s h what p (step .head));
+        count = λ g q.
+            let next : lookedFrom g d ≡ entryLooked s g (compares what) p (spotView s e) + lookedFrom g d′ = looked-next s g _ _ p _ _ _ (step .entries) t in
+            omega (arith, next, here g q, going .count g q);
+        few = omega (arith, going .few, step .less, tried, spot-few s e what p (step .spot));
       }

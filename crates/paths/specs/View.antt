@@ -14,7 +14,8 @@ use Rattle.rules.specs.Index.{Entry, liveType, deletedType, typeDirectory, name
 use Rattle.rules.specs.Paths.{isLive, liveAt, deletedAt, isDirectoryAt}
 use Rattle.rules.specs.Comparing.{looked, searchLooked}
 use Rattle.slots.specs.declared.Head.{Head}
-use Rattle.slots.specs.View.{headView, HeadIn}
+use Rattle.slots.specs.declared.Spot.{Spot}
+use Rattle.slots.specs.View.{headView, spotView, HeadIn}
 use Rattle.paths.specs.declared.Search.{Search}
 use Rattle.paths.specs.declared.Search.the-variants.{Nothing, Entry as found}
 use Rattle.index.specs.declared.Cursor.{Cursor}
@@ -54,12 +55,12 @@ byName (bySlot k) = false
 unfoldable pub compares : Sought → Entry → Bool
 compares what e = byName what && soughtKind what (e .kind)
 
--- the name of a head's run, by all its bytes, and how many of them are looked at
-abbrev pub nameOf : List ℕ → Head → List ℕ
-nameOf s h = nameField (drop (h .at .0) s)
+-- the name of the run at a spot, by all its bytes, and how many of them are looked at
+abbrev pub nameOf : List ℕ → Spot → List ℕ
+nameOf s e = nameField (drop (e .at .0) s)
 
-unfoldable pub headLooked : List ℕ → Head → Sought → List ℕ → ℕ
-headLooked s h what p = pick (compares what (headView s h)) (looked (nameOf s h) p) 0
+unfoldable pub spotLooked : List ℕ → Spot → Sought → List ℕ → ℕ
+spotLooked s e what p = pick (compares what (spotView s e)) (looked (nameOf s e) p) 0
 
 -- what a search from a cursor looks at is the rules' sum over the entries that it meets; the cursor stands where its slot lies
 abbrev pub LookedFrom : List ℕ → Cursor → (Entry → Bool) → (Entry → Bool) → List ℕ → ℕ → Type 0

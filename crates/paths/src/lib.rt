@@ -4,9 +4,10 @@ use comparing::Compared;
 use comparing::apart;
 use comparing::compare;
 use index::Cursor;
-use index::Next;
-use index::next_entry;
+use index::Stop;
+use index::next_spot;
 use slots::Head;
+use slots::Spot;
 use units::Slot;
 ghost use mathlib.Core.Path.{_≡_};
 ghost use mathlib.Core.Bool.{true};
@@ -16,9 +17,9 @@ ghost use Rattle.rules.specs.Index.{runType};
 ghost use Rattle.rules.specs.Paths.{isLive, liveAt, deletedAt, lookup, nextLive, directoryLive, anyBelow};
 ghost use Rattle.rules.specs.Comparing.{looked};
 ghost use Rattle.comparing.specs.Walk.{isThen};
-ghost use Rattle.slots.specs.View.{headView, HeadIn};
+ghost use Rattle.slots.specs.View.{spotView, SpotIn};
 ghost use Rattle.index.specs.Steps.{Walks, entriesFrom};
-ghost use Rattle.paths.specs.View.{Hits, Searched, isFound, passes, soughtKind, compares, nameOf, headLooked, LookedFrom};
+ghost use Rattle.paths.specs.View.{Hits, Searched, isFound, passes, soughtKind, compares, nameOf, spotLooked, LookedFrom};
 
 pub enum Search {
     Nothing,
@@ -34,30 +35,30 @@ pub enum Hit {
 // ---- one entry
 
 // The name of the run's entry, compared with the path and the byte `end` behind it.
-fn compare_name(img: &[u8], h: Head, path: &[u8], end: u8) -> Compared
-    requires { ⌜ HeadIn (now img) h × (runType (h .kind) ≡ true) ⌝ }
-    ensures { λ r. ⌜ r .same ≡ isThen end (nameOf (now (img .entry)) h) (now (path .entry)) ⌝ }
-    ensures counted { λ r. ⌜ r .looked ≡ looked (nameOf (now (img .entry)) h) (now (path .entry)) ⌝ }
+fn compare_name(img: &[u8], e: Spot, path: &[u8], end: u8) -> Compared
+    requires { ⌜ SpotIn (now img) e × (runType (e .kind) ≡ true) ⌝ }
+    ensures { λ r. ⌜ r .same ≡ isThen end (nameOf (now (img .entry)) e) (now (path .entry)) ⌝ }
+    ensures counted { λ r. ⌜ r .looked ≡ looked (nameOf (now (img .entry)) e) (now (path .entry)) ⌝ }
 {
-    compare(slots::name_field(img, h.at), path, end)
+    compare(slots::name_field(img, e.at), path, end)
 }
 
 // Whether the run's entry has this path.
-fn has_path(img: &[u8], h: Head, path: &[u8]) -> Compared
-    requires { ⌜ HeadIn (now img) h × (runType (h .kind) ≡ true) ⌝ }
-    ensures { λ r. ⌜ r .same ≡ eqList (headView (now (img .entry)) h .path) (now (path .entry)) ⌝ }
-    ensures counted { λ r. ⌜ r .looked ≡ looked (nameOf (now (img .entry)) h) (now (path .entry)) ⌝ }
+fn has_path(img: &[u8], e: Spot, path: &[u8]) -> Compared
+    requires { ⌜ SpotIn (now img) e × (runType (e .kind) ≡ true) ⌝ }
+    ensures { λ r. ⌜ r .same ≡ eqList (spotView (now (img .entry)) e .path) (now (path .entry)) ⌝ }
+    ensures counted { λ r. ⌜ r .looked ≡ looked (nameOf (now (img .entry)) e) (now (path .entry)) ⌝ }
 {
-    compare_name(img, h, path, 0)
+    compare_name(img, e, path, 0)
 }
 
 // Whether the run's entry lies below this path.
-fn lies_below(img: &[u8], h: Head, path: &[u8]) -> Compared
-    requires { ⌜ HeadIn (now img) h × (runType (h .kind) ≡ true) ⌝ }
-    ensures { λ r. ⌜ r .same ≡ isBelow (now (path .entry)) (headView (now (img .entry)) h .path) ⌝ }
-    ensures counted { λ r. ⌜ r .looked ≡ looked (nameOf (now (img .entry)) h) (now (path .entry)) ⌝ }
+fn lies_below(img: &[u8], e: Spot, path: &[u8]) -> Compared
+    requires { ⌜ SpotIn (now img) e × (runType (e .kind) ≡ true) ⌝ }
+    ensures { λ r. ⌜ r .same ≡ isBelow (now (path .entry)) (spotView (now (img .entry)) e .path) ⌝ }
+    ensures counted { λ r. ⌜ r .looked ≡ looked (nameOf (now (img .entry)) e) (now (path .entry)) ⌝ }
 {
-    compare_name(img, h, path, b'/')
+    compare_name(img, e, path, b'/')
 }
 
 // What an entry is looked for by; a path stands beside it.
@@ -83,21 +84,21 @@ fn is_sought(what: Sought, kind: u8) -> bool
 }
 
 // Whether the entry passes (`same`), and how many bytes of its name were looked at. A name is compared only where the kind is sought.
-fn passes(img: &[u8], h: Head, what: Sought, path: &[u8]) -> Compared
-    requires { ⌜ HeadIn (now img) h ⌝ }
-    ensures { λ r. ⌜ r .same ≡ passes what (now (path .entry)) (headView (now (img .entry)) h) ⌝ }
-    ensures counted { λ r. ⌜ r .looked ≡ headLooked (now (img .entry)) h what (now (path .entry)) ⌝ }
+fn passes(img: &[u8], e: Spot, what: Sought, path: &[u8]) -> Compared
+    requires { ⌜ SpotIn (now img) e ⌝ }
+    ensures { λ r. ⌜ r .same ≡ passes what (now (path .entry)) (spotView (now (img .entry)) e) ⌝ }
+    ensures counted { λ r. ⌜ r .looked ≡ spotLooked (now (img .entry)) e what (now (path .entry)) ⌝ }
 {
-    if !is_sought(what, h.kind) {
+    if !is_sought(what, e.kind) {
         return apart(0);
     }
     match what {
-        Sought::Path => has_path(img, h, path),
-        Sought::Deleted => has_path(img, h, path),
-        Sought::Directory => has_path(img, h, path),
-        Sought::Below => lies_below(img, h, path),
+        Sought::Path => has_path(img, e, path),
+        Sought::Deleted => has_path(img, e, path),
+        Sought::Directory => has_path(img, e, path),
+        Sought::Below => lies_below(img, e, path),
         Sought::From(slot) => Compared {
-            same: slot.is_at_or_before(h.slot),
+            same: slot.is_at_or_before(e.slot),
             looked: 0,
         },
     }
@@ -116,7 +117,7 @@ pub struct Found {
     pub looked: usize,
 }
 
-// The first entry that passes, and where the walk goes on behind it.
+// The first entry that passes, and where the walk goes on behind it. Only its numbers are read.
 fn next_hit(img: &[u8], from: Cursor, what: Sought, path: &[u8]) -> Met
     requires { ⌜ Walks (now img) from ⌝ }
     ensures { λ r. ⌜ Hits (now (img .entry)) (passes what (now (path .entry))) (entriesFrom (now (img .entry)) from) (r .hit) ⌝ }
@@ -125,15 +126,16 @@ fn next_hit(img: &[u8], from: Cursor, what: Sought, path: &[u8]) -> Met
     let mut at = from;
     let mut looked: usize = 0;
     loop {
-        match next_entry(img, at) {
-            Next::End => return Met {
+        match next_spot(img, at) {
+            Stop::End => return Met {
                 hit: Hit::Nothing,
                 looked,
             },
-            Next::Found(h, rest) => {
-                let tried = passes(img, h, what, path);
+            Stop::At(e, rest) => {
+                let tried = passes(img, e, what, path);
                 looked += tried.looked;
                 if tried.same {
+                    let h = slots::head_at(img, e.at, e.slot);
                     return Met {
                         hit: Hit::Entry(h, rest),
                         looked,

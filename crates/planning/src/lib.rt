@@ -6,11 +6,12 @@ use index::Cursor;
 use index::Unused;
 use judging::Kept;
 use placing::Site;
+use super_block::SuperBlock;
 use units::Block;
 use units::Slot;
 ghost use mathlib.Core.Path.{_≡_};
 ghost use mathlib.Core.List.{List};
-ghost use Prim.Native.Nat.{ℕ, _+_, _*_, _^_, _≤_, _<_};
+ghost use Prim.Native.Nat.{ℕ, _+_, _*_, _/_, _^_, _≤_, _<_, min};
 ghost use lib.ListN.{length, drop};
 ghost use Rattle.rules.specs.Fields.{signedOf};
 ghost use Rattle.rules.specs.SuperBlock.{growIndex};
@@ -20,6 +21,7 @@ ghost use Rattle.rules.specs.Writing.{newSlots, newBlocks, grownPlace, placeRun
 ghost use Rattle.geometry.specs.View.{geometryView};
 ghost use Rattle.regions.specs.Gathering.{HasRegions};
 ghost use Rattle.free_runs.specs.View.{freeView};
+ghost use Rattle.super_block.specs.View.{Passed};
 ghost use Rattle.judging.specs.View.{Opened, volumeOf};
 ghost use Rattle.judging.specs.Keeping.{KeysOf};
 ghost use Rattle.planning.specs.Places.{placeView, siteFrom, Begins};
@@ -186,14 +188,56 @@ fn plan_opened(
     plan_places(img, g, from, keys, i, file, path, bytes, stamp)
 }
 
-// A file of these bytes, or a directory: all that a create tests, on any image and any arguments.
-pub fn plan_create(img: &[u8], file: bool, path: &[u8], bytes: &[u8], stamp: u64) -> Plan
+// 6 to 8 before that, with lent scratch, which keeps the keys of the regions.
+fn plan_judged(
+    img: &[u8],
+    g: Geometry,
+    keys: &mut [u64],
+    tmp: &mut [u64],
+    file: bool,
+    path: &[u8],
+    bytes: &[u8],
+    stamp: u64,
+) -> Plan
+    requires { ⌜ Passed (now img) g × (min (g .index / 64) 4_094 ≤ length (now keys)) × (length (now keys) ≤ length (now tmp)) ⌝ }
+    ensures { λ r. ⌜ Planned (now (img .entry)) (newOf file (now (bytes .entry))) (now (path .entry)) (signedOf stamp) r ⌝ }
+{
+    match judging::judge_index(img, g, keys, tmp) {
+        Kept::Refused(n) => Plan::Refused(n),
+        Kept::Good(opened, i) => plan_opened(img, opened, keys, i, file, path, bytes, stamp),
+    }
+}
+
+// The same with scratch for an index of few slots, and of any.
+fn plan_few(img: &[u8], g: Geometry, file: bool, path: &[u8], bytes: &[u8], stamp: u64) -> Plan
+    requires { ⌜ Passed (now img) g × (g .index / 64 ≤ 512) ⌝ }
+    ensures { λ r. ⌜ Planned (now (img .entry)) (newOf file (now (bytes .entry))) (now (path .entry)) (signedOf stamp) r ⌝ }
+{
+    let mut keys = [0u64; judging::FEW];
+    let mut tmp = [0u64; judging::FEW];
+    plan_judged(img, g, &mut keys, &mut tmp, file, path, bytes, stamp)
+}
+
+fn plan_many(img: &[u8], g: Geometry, file: bool, path: &[u8], bytes: &[u8], stamp: u64) -> Plan
+    requires { ⌜ Passed (now img) g ⌝ }
     ensures { λ r. ⌜ Planned (now (img .entry)) (newOf file (now (bytes .entry))) (now (path .entry)) (signedOf stamp) r ⌝ }
 {
     let mut keys = [0u64; judging::MOST];
     let mut tmp = [0u64; judging::MOST];
-    match judging::judge_keeping(img, &mut keys, &mut tmp) {
-        Kept::Refused(n) => Plan::Refused(n),
-        Kept::Good(g, i) => plan_opened(img, g, &keys, i, file, path, bytes, stamp),
+    plan_judged(img, g, &mut keys, &mut tmp, file, path, bytes, stamp)
+}
+
+// A file of these bytes, or a directory: all that a create tests, on any image and any arguments.
+pub fn plan_create(img: &[u8], file: bool, path: &[u8], bytes: &[u8], stamp: u64) -> Plan
+    ensures { λ r. ⌜ Planned (now (img .entry)) (newOf file (now (bytes .entry))) (now (path .entry)) (signedOf stamp) r ⌝ }
+{
+    match super_block::judge_super(img) {
+        SuperBlock::Refused(n) => Plan::Refused(n),
+        SuperBlock::Good(g) => {
+            if judging::has_few(g) {
+                return plan_few(img, g, file, path, bytes, stamp);
+            }
+            plan_many(img, g, file, path, bytes, stamp)
+        }
     }
 }

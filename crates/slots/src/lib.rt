@@ -5,7 +5,7 @@ use units::Offset;
 use units::Slot;
 ghost use mathlib.Core.Path.{_≡_};
 ghost use mathlib.Core.Bool.{true};
-ghost use Prim.Native.Nat.{_+_, _*_, _/_, _≤_, _<_};
+ghost use Prim.Native.Nat.{ℕ, _+_, _*_, _/_, _≤_, _<_};
 ghost use lib.ListN.{length, getD, drop};
 ghost use Rattle.rules.specs.Index.{fileType, runType, liveType, deletedType, strayType, nameAt, continuing, runSlots, nameField, fileField, entryAt};
 ghost use Rattle.rules.specs.Index.Items.{entryType, headOf};
@@ -145,6 +145,13 @@ pub struct Head {
     pub length: u64,
 }
 
+// Where an entry stands: the place and the number of its first slot, and its type.
+pub struct Spot {
+    pub at: Offset,
+    pub kind: u8,
+    pub slot: Slot,
+}
+
 // The first byte of the slot at `at`.
 pub fn kind_at(img: &[u8], at: Offset) -> u8
     requires { ⌜ at .0 < length (now img) ⌝ }
@@ -159,7 +166,19 @@ pub fn slots_at(img: &[u8], at: Offset) -> u64
     requires { ⌜ at .0 + 64 ≤ length (now img) ⌝ }
     ensures { λ r. ⌜ (r ≡ runSlots (drop (at .0) (now (img .entry)))) × (1 ≤ r) × (r ≤ 256) ⌝ }
 {
-    1 + fields::le_at(img, at.after(COUNT), 1)
+    let i = at.after(COUNT).index();
+    1 + fields::wide(img[i])
+}
+
+// The slots of the entry at `at`: an unusable one has its first slot alone.
+pub fn entry_slots(img: &[u8], at: Offset) -> u64
+    requires { ⌜ at .0 + 64 ≤ length (now img) ⌝ }
+    ensures { λ r. ⌜ ((k : ℕ) → r ≡ headOf k (drop (at .0) (now (img .entry))) .slots) × (r ≤ 256) ⌝ }
+{
+    if is_run(kind_at(img, at)) {
+        return slots_at(img, at);
+    }
+    1
 }
 
 // ---- a name in its run

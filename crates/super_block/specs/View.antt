@@ -21,7 +21,12 @@ pub record Judged (s : List ℕ) (g : Held) : Type 0 where
   pub short : length s ≤ 16_777_216
   pub good : GoodGeometry (length s) (geometryView g)
 
-pub judged : (s : List ℕ) (r : SuperBlock) (g : Held) → superView r ≡ judgeGeometry s → r ≡ Good g → Judged s g
-judged s r g e i =
-    let o = judge-super s (geometryView g) (sym e ∙ ap superView i) in
-    record { short = o .length-high; good = o .geometry-good }
+-- the refusals 1 to 5 do not hold, and g is the geometry
+abbrev pub Passed : List ℕ → Held → Type 0
+Passed s g = judgeGeometry s ≡ accepted (geometryView g)
+
+pub passed : (s : List ℕ) (r : SuperBlock) (g : Held) → superView r ≡ judgeGeometry s → r ≡ Good g → Passed s g
+passed s r g e i = sym e ∙ ap superView i
+
+pub passed-judged : (s : List ℕ) (g : Held) → Passed s g → Judged s g
+passed-judged s g e = let o = judge-super s (geometryView g) e in record { short = o .length-high; good = o .geometry-good }

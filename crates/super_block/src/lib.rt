@@ -5,7 +5,7 @@ use index::Cursor;
 use units::Offset;
 use units::Slot;
 ghost use mathlib.Core.Path.{_≡_};
-ghost use Prim.Native.Nat.{_≤_};
+ghost use Prim.Native.Nat.{_/_, _≤_};
 ghost use lib.ListN.{length};
 ghost use Rattle.rules.specs.Fields.{splice};
 ghost use Rattle.rules.specs.SuperBlock.{lengthGood, geometryOf, magicAt, superBlockAt, summedBytes, superBlockBytes, putSizes};
@@ -126,7 +126,7 @@ pub fn judge_super(img: &[u8]) -> SuperBlock
 // The cursor at slot 1, behind the start marker; the volume identifier is not among the slots left.
 pub fn first_slot(img: &[u8], g: Geometry) -> Cursor
     requires { ⌜ Judged (now img) g ⌝ }
-    ensures { λ r. ⌜ (itemsFrom (now (img .entry)) r ≡ itemsOf (now (img .entry)) (geometryView g)) × Inside (now (img .entry)) r × (r .at .0 ≡ slotAt (now (img .entry)) (geometryView g) (r .slot .0)) × (r .left ≤ 4094) ⌝ }
+    ensures { λ r. ⌜ (itemsFrom (now (img .entry)) r ≡ itemsOf (now (img .entry)) (geometryView g)) × Inside (now (img .entry)) r × (r .at .0 ≡ slotAt (now (img .entry)) (geometryView g) (r .slot .0)) × (r .left ≤ 4094) × (r .left ≤ g .index / 64) ⌝ }
 {
     let start = units::index_start(img.len() as u64, g.index);
     let slot = Slot::at(1);

@@ -6,7 +6,7 @@ use lib.ListN.{getD}
 use Rattle.rules.specs.Index.Items.{entryType}
 use Rattle.rules.specs.Writing.{lowestUnused}
 use Rattle.index.specs.View.{itemsFrom}
-use Rattle.index.specs.Steps.{Walks, slots-left, step-found, skip-walks}
+use Rattle.index.specs.Steps.{Walks, slots-left, behind-walks, behind-less, skip-walks}
 use Rattle.index.specs.Unused.{lowestFrom, search-first, search-end, search-entry, search-unused, search-full}
 use borrow.Author.Needs.{needs}
 use Rattle.index.proofs.lowest_unused.Statement.{statement}
@@ -31,30 +31,29 @@ is-entry-requires c κs = search needs
 type-is : (c : tie.After-is-entry Inv-loop μ-loop) → entryType (getD (now (c .before .before .before .before .before .before .before .args .img)) (c .before .before .before .before .loop .c .at .0) 0) ≡ c .is-entry .result
 type-is c = sym (ap entryType (c .before .kind-at .ensures)) ∙ sym (c .is-entry .ensures)
 
-head-at-requires : tie.Need-head-at-requires Inv-loop μ-loop
-head-at-requires c κs = omega (arith, c .before .before .before .before .before .loop .inv .0 .inside .fits, c .before .before .before .if1 .taken)
-
 past-requires : tie.Need-past-requires Inv-loop μ-loop
-past-requires c κs = let w = c .before .before .before .before .before .before .loop .inv .0 in
-    (slots-left _ _ w (c .before .before .before .before .if1 .taken) (type-is (c .before .before) ∙ c .before .if2 .taken) _ (c .head-at .ensures .0), omega (arith, w .inside .fits, w .inside .short), w .inside .numbers)
+past-requires c κs =
+    let w = c .before .before .before .before .before .before .loop .inv .0 in
+    (slots-left _ _ w (c .before .before .before .before .if1 .taken) (type-is (c .before .before) ∙ c .before .if2 .taken) _ (c .entry-slots .ensures .0 _), omega (arith, w .inside .fits, w .inside .short), w .inside .numbers)
 
 loop-less : tie.Need-loop-less Inv-loop μ-loop
-loop-less c = let y = c .before .before .before .before in
+loop-less c =
+    let y = c .before .before .before .before in
     let l = y .before .before .before .before .loop in
-    let v = c .before .before .head-at .ensures in
-    step-found _ (l .c) (l .inv .0) (y .before .before .if1 .taken) (type-is y ∙ c .before .before .before .if2 .taken) _ _ (v .0) (v .1 .0) (v .1 .1) (c .before .past .ensures) .less
+    behind-less _ (l .c) (l .inv .0) (y .before .before .if1 .taken) (type-is y ∙ c .before .before .before .if2 .taken) _ (c .before .before .entry-slots .ensures .0 _) _ (c .before .past .ensures)
 
 loop-again : tie.Need-loop-again Inv-loop μ-loop
-loop-again c = let y = c .before .before .before .before in
+loop-again c =
+    let y = c .before .before .before .before in
     let l = y .before .before .before .before .loop in
-    let v = c .before .before .head-at .ensures in
+    let n = c .before .before .entry-slots .ensures .0 _ in
     let m = y .before .before .if1 .taken in
     let t = type-is y ∙ c .before .before .before .if2 .taken in
     let p = c .before .past .ensures in (
-      step-found _ (l .c) (l .inv .0) m t _ _ (v .0) (v .1 .0) (v .1 .1) p .walks,
+      behind-walks _ (l .c) (l .inv .0) m t _ n _ p,
       omega arith,
       omega (arith, l .inv .2),
-      search-entry _ _ (l .first .0) (l .c) (l .inv .2) (l .inv .0) m t _ (v .0) _ p _ refl ∙ l .inv .3,
+      search-entry _ _ (l .first .0) (l .c) (l .inv .2) (l .inv .0) m t _ n _ p _ refl ∙ l .inv .3,
     )
 
 past-requires-2 : tie.Need-past-requires-2 Inv-loop μ-loop
@@ -99,7 +98,7 @@ lowest-unused-spec =
     loop-holds
     kind-at-requires
     is-entry-requires
-    head-at-requires
+    (λ c κs. search (needs, c .before .before .before .before .before .loop .inv .0 .inside .fits))
     past-requires
     loop-less
     loop-again

@@ -1,26 +1,35 @@
-use mathlib.Core.Path.{sym}
+use mathlib.Core.Path.{sym, ap, _∙_}
+use denote.Ref.{now}
 use borrow.Author.Needs.{needs}
+use Rattle.rules.specs.Refusals.Laws.{judge-refused}
+use Rattle.super_block.specs.View.{superView, Passed, passed}
 use Rattle.judging.specs.View.{judgedView}
-use Rattle.judging.specs.Keeping.{kept-refused, kept-good}
 use Rattle.judging.proofs.judge.Statement.{statement}
 use Rattle.judging.proofs.judge.Tie as tie
 
-returns : tie.Need-returns
-unfolding judgedView
-returns c = sym (kept-refused _ _ _ _ (c .before .before .before .before .before .judge-keeping .ensures) _ (c .before .n .given .1))
+here : (c : tie.After-g) → Passed (now (c .before .before .before .before .args .img)) (c .g .given .0 .0)
+here c = passed _ _ _ (c .before .before .judge-super .ensures) (c .g .given .1)
+
+judge-few-requires : tie.Need-judge-few-requires
+judge-few-requires c κs = (here (c .before .before .before), c .before .has-few .ensures (c .if1 .taken))
+
+judge-many-requires : tie.Need-judge-many-requires
+judge-many-requires c κs = here (c .before .before .before)
 
 returns-2 : tie.Need-returns-2
 unfolding judgedView
-returns-2 c = sym (kept-good _ _ _ _ (c .before .before .before .before .before .judge-keeping .ensures) _ _ (c .before .g .given .1) .0)
+returns-2 c = sym (judge-refused _ (sym (c .before .before .before .judge-super .ensures) ∙ ap superView (c .before .n .given .1)))
 
 pub judge-spec : {M : Type 1} → statement M
 judge-spec =
     tie.close
     (tie.spec
-    (λ c. search needs)
-    (λ c. search needs)
     (λ c κs. search needs)
     (λ c. search needs)
     (λ c. search needs)
-    returns
-    returns-2)
+    (λ c κs. search needs)
+    judge-few-requires
+    (λ c. search needs)
+    judge-many-requires
+    returns-2
+    (λ c. search needs))

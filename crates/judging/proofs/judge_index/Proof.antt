@@ -7,9 +7,10 @@ use borrow.Author.Needs.{needs}
 use Rattle.rules.specs.Index.{entriesOf, indexSound, itemsOf}
 use Rattle.rules.specs.Regions.{regionsSound}
 use Rattle.rules.specs.Paths.{pathsSound}
-use Rattle.rules.specs.Refusals.Laws.{index-bad-slots, index-bad-regions, index-bad-paths, index-good}
+use Rattle.rules.specs.Refusals.Laws.{judge-index, index-bad-slots, index-bad-regions, index-bad-paths, index-good}
 use Rattle.geometry.specs.View.{geometryView}
 use Rattle.index.specs.Steps.{Walks, entriesFrom}
+use Rattle.super_block.specs.View.{passed-judged}
 use Rattle.super_block.specs.Ends.{sound-walks}
 use Rattle.regions.specs.Bounds.{good-bounded}
 use Rattle.regions.specs.Gathering.{regions-unsound, regions-from}
@@ -53,48 +54,49 @@ sound c = regions-are (begun (looked (told c))) _ (regions-from _ _ _ _ _ (told 
 
 returns : tie.Need-returns
 unfolding Keeps
-returns c = index-bad-slots _ _ _ (sym (c .before .index-sound .ensures) ∙ not-true _ (c .if1 .taken))
+returns c = judge-index _ (c .before .before .before .before .before .pre .0) ∙ index-bad-slots _ _ _ (sym (c .before .index-sound .ensures) ∙ not-true _ (c .if1 .taken))
 
 paths-sound-requires : tie.Need-paths-sound-requires
 paths-sound-requires c κs =
     let f = c .before .before in
-    (walks f, omega (arith, f .first-slot .ensures .3), omega (arith, f .first-slot .ensures .3, start f .pre .1), omega (arith, start f .pre .2))
+    (walks f, omega (arith, f .first-slot .ensures .3), omega (arith, f .first-slot .ensures .3, f .first-slot .ensures .4, start f .pre .1), omega (arith, start f .pre .2))
 
 judge-regions-requires : tie.Need-judge-regions-requires
 judge-regions-requires c κs =
     let f = begun (c .before .before .before .before .before .before) in
     let p = start f .pre in
-    (good-bounded _ _ (p .0 .good) (p .0 .short), walks f, omega (arith, f .first-slot .ensures .3, p .1), omega (arith, p .2))
+    let j = passed-judged _ _ (p .0) in
+    (good-bounded _ _ (j .good) (j .short), walks f, omega (arith, f .first-slot .ensures .3, f .first-slot .ensures .4, p .1), omega (arith, p .2))
 
 returns-2 : tie.Need-returns-2
 unfolding Keeps
 returns-2 c =
     let i = c .before .before in
     let p = looked (told i) in
-    index-bad-paths _ _ _ (index-is (begun p .before)) (sound i) (paths-are p ∙ not-true _ (c .if2 .taken))
+    judge-index _ (start (begun p) .pre .0) ∙ index-bad-paths _ _ _ (index-is (begun p .before)) (sound i) (paths-are p ∙ not-true _ (c .if2 .taken))
 
 returns-3 : tie.Need-returns-3
 unfolding Keeps
 returns-3 c =
     let r = c .before .before .before .before .before .before in
     let f = begun (looked r) in
-    index-bad-regions _ _ _ (index-is (f .before)) (regions-are f _ (regions-unsound _ _ _ _ _ (r .judge-regions .ensures) (c .enum-told .given .1)))
+    judge-index _ (start f .pre .0) ∙ index-bad-regions _ _ _ (index-is (f .before)) (regions-are f _ (regions-unsound _ _ _ _ _ (r .judge-regions .ensures) (c .enum-told .given .1)))
 
 returns-4 : tie.Need-returns-4
 returns-4 c =
     let i = c .before .before in
     let p = looked (told i) in
     let f = begun p in
-    keeps-good _ _ _ (index-good _ _ _ (index-is (f .before)) (sound i) (paths-are p ∙ not-false _ (c .if2 .left))) (f .first-slot .result) (f .first-slot .ensures .0)
+    keeps-good _ _ _ (judge-index _ (start f .pre .0) ∙ index-good _ _ _ (index-is (f .before)) (sound i) (paths-are p ∙ not-false _ (c .if2 .left))) (f .first-slot .result) (f .first-slot .ensures .0)
     _ _ (regions-from _ _ _ _ _ (told i .judge-regions .ensures) _ (i .i .given .1) .2)
 
 pub judge-index-spec : {M : Type 1} → statement M
 judge-index-spec =
     tie.close
     (tie.spec
-    (λ c κs. search needs)
+    (λ c κs. passed-judged _ _ (c .before .before .before .pre .0))
     returns
-    (λ c κs. search needs)
+    (λ c κs. passed-judged _ _ (c .before .before .before .before .before .pre .0))
     paths-sound-requires
     judge-regions-requires
     (λ c. search needs)

@@ -6,7 +6,7 @@ use lib.ListN.{length}
 use borrow.Author.Needs.{needs}
 use Rattle.rules.specs.Fields.Laws.{zero-last, zero-past}
 use Rattle.names.specs.Texts.{from-start}
-use Rattle.names.specs.Reader.{PathAt, plain-turn, other-turn, bad-part, path-ended}
+use Rattle.names.specs.Reader.{PathAt, plain-turn, plain-run, other-turn, bad-part, path-ended}
 use Rattle.names.proofs.path_in.Statement.{statement}
 use Rattle.names.proofs.path_in.Tie as tie
 
@@ -21,8 +21,11 @@ loop-holds c = (search needs, omega arith, (omega arith, from-start _ _ _, refl)
 
 loop-again : tie.Need-loop-again Inv-loop μ-loop
 loop-again c =
-    let here = c .before .before .before .before .before in
-    plain-turn _ _ _ _ (here .before .loop .inv) (here .loop-test .taken) (c .before .before .if1 .taken) (sym (c .before .is-plain .ensures) ∙ c .if2 .taken)
+    let t = c .before in
+    let here = t .before .before .before .before .before in
+    let first = plain-turn _ _ _ _ (here .before .loop .inv) (here .loop-test .taken) (t .before .before .if1 .taken) (sym (t .before .is-plain .ensures) ∙ t .if2 .taken) in
+    let run = c .plain-from .ensures in
+    plain-run _ _ (t .before .before .if1 .taken) _ (run .1) _ (run .0) (run .2) first
 
 returns : tie.Need-returns Inv-loop μ-loop
 returns c =
@@ -52,6 +55,7 @@ path-in-spec =
     (λ c. search needs)
     (λ c κs. search needs)
     (λ c. search needs)
+    (λ c κs. search needs)
     (λ c. search needs)
     loop-again
     (λ c κs. search needs)

@@ -1,7 +1,8 @@
 use mathlib.Core.Path.{sym, _∙_}
+use native.Mathlib.Omega.{arith}
 use denote.Ref.{now}
-use Rattle.index.specs.Steps.{Step}
-use Rattle.index.specs.Turns.{told-end, told-found}
+use Rattle.index.specs.Steps.{Reached}
+use Rattle.index.specs.Turns.{stops-end, stops-at}
 use Rattle.paths.specs.Searching.{Going, going-first, going-end, going-room, going-found, going-next}
 use borrow.Author.Needs.{needs}
 use Rattle.paths.proofs.next_hit.Statement.{statement}
@@ -16,22 +17,26 @@ abbrev μ-loop : tie.MeasureT-loop
 returns : tie.Need-returns Inv-loop μ-loop
 returns c =
     let n = c .before .before in
-    going-end _ _ _ _ _ _ (n .before .loop .inv) (told-end _ _ _ (n .next-entry .ensures) (c .enum-told .given .1))
+    going-end _ _ _ _ _ _ (n .before .loop .inv) (stops-end _ _ _ (n .next-spot .ensures) (c .enum-told .given .1))
 
-step : (c : tie.After-h Inv-loop μ-loop) → let l = c .before .before .before in
-    Step (now (l .before .before .before .args .img)) (l .loop .at) (c .h .given .0 .0) (c .h .given .0 .1 .0)
-step c = told-found _ _ _ (c .before .before .next-entry .ensures) _ _ (c .h .given .1)
+step : (c : tie.After-e Inv-loop μ-loop) → let l = c .before .before .before in
+    Reached (now (l .before .before .before .args .img)) (l .loop .at) (c .e .given .0 .0) (c .e .given .0 .1 .0)
+step c = stops-at _ _ _ (c .before .before .next-spot .ensures) _ _ (c .e .given .1)
 
 add-looked : tie.Need-add-looked Inv-loop μ-loop
 add-looked c =
     let h = c .before .before .before in
     record { fits = going-room _ _ _ _ _ _ (h .before .before .before .loop .inv) _ _ (step h) _ (c .before .passes .ensures .1) }
 
+head-at-requires : tie.Need-head-at-requires Inv-loop μ-loop
+head-at-requires c κs = let e = step (c .before .before .before .before) .spot in omega (arith, e .fits, e .low)
+
 returns-2 : tie.Need-returns-2 Inv-loop μ-loop
 returns-2 c =
-    let t = c .before .before in
+    let k = c .before in
+    let t = k .before .before in
     let h = t .before .before in
-    going-found _ _ _ _ _ _ (h .before .before .before .loop .inv) _ _ (step h) _ (t .passes .ensures .1) (sym (t .passes .ensures .0) ∙ c .if1 .taken)
+    going-found _ _ _ _ _ _ (h .before .before .before .loop .inv) _ _ (step h) _ (t .passes .ensures .1) (sym (t .passes .ensures .0) ∙ k .if1 .taken) _ (c .head-at .ensures .0) (c .head-at .ensures .1 .0)
 
 loop-again : tie.Need-loop-again Inv-loop μ-loop
 loop-again c =
@@ -50,8 +55,9 @@ next-hit-spec =
     (λ c. search needs)
     returns
     (λ c. search needs)
-    (λ c κs. step (c .before) .head)
+    (λ c κs. step (c .before) .spot)
     add-looked
+    head-at-requires
     returns-2
     (λ c. step (c .before .before .before .before) .less)
     loop-again)

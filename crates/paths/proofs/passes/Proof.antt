@@ -3,7 +3,7 @@ use mathlib.Core.Bool.{true}
 use denote.Ref.{now}
 use borrow.Author.Tests.{not-true, not-false}
 use Rattle.rules.specs.Index.{runType}
-use Rattle.slots.specs.View.{HeadIn}
+use Rattle.slots.specs.View.{SpotIn}
 use Rattle.comparing.specs.Walk.{thus}
 use Rattle.paths.specs.View.{soughtKind}
 use Rattle.paths.specs.Entries.{tried-not, tried-path, tried-deleted, tried-directory, tried-below, tried-from, sought-run}
@@ -15,12 +15,12 @@ returns : tie.Need-returns
 returns c = let e = c .before in
     thus _ _ _ _ _ _ (c .apart .ensures) (tried-not _ _ _ _ (sym (e .before .is-sought .ensures) ∙ not-true _ (e .if1 .taken)))
 
-sought : (c : tie.Else1) → let a = c .before .before .before .before .args in soughtKind (a .what) (a .h .kind) ≡ true
+sought : (c : tie.Else1) → let a = c .before .before .before .before .args in soughtKind (a .what) (a .e .kind) ≡ true
 sought c = sym (c .before .is-sought .ensures) ∙ not-false _ (c .if1 .left)
 
-here : (c : tie.Else1) → let a = c .before .before .before .before .args in HeadIn (now (a .img)) (a .h) × (runType (a .h .kind) ≡ true)
+here : (c : tie.Else1) → let a = c .before .before .before .before .args in SpotIn (now (a .img)) (a .e) × (runType (a .e .kind) ≡ true)
 here c = let b = c .before .before .before .before in
-    (b .pre, sought-run (now (b .args .img)) (now (b .args .path)) (b .args .h) (b .args .what) (sought c))
+    (b .pre, sought-run (now (b .args .img)) (now (b .args .path)) (b .args .e) (b .args .what) (sought c))
 
 returns-2 : tie.Need-returns-2
 returns-2 c = let w = c .before .enum-told .given .1 in

@@ -5,13 +5,13 @@ use denote.Ref.{now}
 use lib.Seq.{length-take-le}
 use Rattle.rules.specs.Fields.Laws.{upToZero-take}
 use Rattle.rules.specs.Fields.{upToZero}
-use Rattle.slots.specs.View.{field-fits, path-is}
+use Rattle.slots.specs.View.{headView, field-fits, path-is}
 use borrow.Author.Needs.{needs}
 use Rattle.slots.proofs.path_of.Statement.{statement}
 use Rattle.slots.proofs.path_of.Tie as tie
 
 name-field-requires : tie.Need-name-field-requires
-name-field-requires c κs = field-fits (now (c .before .args .img)) (c .before .args .h) (c .before .pre .0) (c .before .pre .1)
+name-field-requires c κs = field-fits (now (c .before .args .img)) _ _ _ (c .before .pre .0) (c .before .pre .1)
 
 zero-at-requires : tie.Need-zero-at-requires
 zero-at-requires c κs = search needs
@@ -20,11 +20,12 @@ slice-aggregate-result : tie.Need-slice-aggregate-result
 slice-aggregate-result c = sym (length-take-le _ _ (c .before .zero-at .ensures .1))
 
 returns : tie.Need-returns
+unfolding headView
 returns c = let x = c .before .before .before .before in
     let f = now (c .before .before .name-field .result) in
     ap (λ (n : ℕ). take n f) (c .before .zero-at .ensures .0) ∙ sym (upToZero-take f)
     ∙ ap upToZero (c .before .before .name-field .ensures)
-    ∙ sym (path-is (now (x .args .img)) (x .args .h) (x .pre .0) (x .pre .1))
+    ∙ sym (path-is (now (x .args .img)) _ _ _ (x .pre .0) (x .pre .1))
 
 pub path-of-spec : {M : Type 1} → statement M
 path-of-spec =

@@ -32,7 +32,7 @@ returns c = let x = c .before .before .before .before .before in
     let at : c .before .offset .result .0 ≡ length s - g .indexBytes + 64 = omega arith in
     let left : c .slots-in .result - 2 ≡ g .indexBytes / 64 - 2 = omega arith in
     let one = c .before .before .at .ensures in
-    (first-items s g _ at one left, first-inside s g _ (x .pre .good) (x .pre .short) at one left, omega (arith, at, one, slot-at s g (c .before .before .at .result .0)), omega (arith, left, x .pre .good .index-high))
+    (first-items s g _ at one left, first-inside s g _ (x .pre .good) (x .pre .short) at one left, omega (arith, at, one, slot-at s g (c .before .before .at .result .0)), omega (arith, left, x .pre .good .index-high), omega (arith, left))
 
 pub first-slot-spec : {M : Type 1} → statement M
 first-slot-spec =
