@@ -8,7 +8,7 @@ use crate::library::Library;
 use second::store::{Own, Store};
 use std::hint::black_box;
 use std::time::{Duration, Instant};
-use volumes::{Kind, Volume, BIG, BYTES, GONE, KINDS, MIB};
+use volumes::{Kind, Volume, BIG, BIG_AT, BYTES, GONE, KINDS, MIB};
 
 const SIZES: [usize; 4] = [64, 256, 1024, 4094];
 /// A call is timed until so much time went by, and so often at least.
@@ -47,14 +47,24 @@ pub fn run(volumes: &str) -> Result<String, String> {
             text += &timed(kind, kind.most(size))?;
         }
     }
-    // Not at one place of their pages both, which would slow the copy.
-    let (from, mut to) = (vec![1; MIB], vec![0; MIB + 2048]);
-    let copy = best(ROUNDS, || {
-        black_box(&mut to[2048..]).copy_from_slice(black_box(&from));
+    text += &copies()?;
+    Ok(text + "\n" + &long_name::run()?)
+}
+
+/// 1 MiB copied by the machine out of an image and into it, between the bytes that a read and a create of the benchmark copy: where they lie in
+/// their pages moves such a copy by a factor of four.
+fn copies() -> Result<String, String> {
+    let mut image = KINDS[0].volume(SIZES[0])?.image;
+    let mut out = vec![7; MIB];
+    let read = best(ROUNDS, || {
+        black_box(&mut out).copy_from_slice(black_box(&image[BIG_AT..BIG_AT + MIB]));
         true
     })?;
-    text += &format!("\nmemory\t\tcopy of 1 MiB\tmachine\t{:.4}", millis(copy));
-    Ok(text + "\n" + &long_name::run()?)
+    let create = best(ROUNDS, || {
+        black_box(&mut image[BIG_AT + MIB..BIG_AT + 2 * MIB]).copy_from_slice(black_box(&out));
+        true
+    })?;
+    Ok(format!("\nmemory\t\tcopy out\tmachine\t{:.4}\nmemory\t\tcopy in\tmachine\t{:.4}", millis(read), millis(create)))
 }
 
 /// All calls on volumes of this look, and one pass over the index bytes.

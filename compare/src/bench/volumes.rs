@@ -17,6 +17,8 @@ const ALIKE: &str = "the session of a reader at terminal 7 of the reading room o
 /// Names before all others, so that they are in order where the others are.
 pub const BIG: &[u8] = b"a big file";
 pub const GONE: &[u8] = b"a gone file";
+/// Where the big file's bytes lie in the image.
+pub const BIG_AT: usize = BLOCK;
 /// The block past the two.
 const TWO_END: usize = 1 + MIB / BLOCK + 1;
 /// The most slots between the two ends of an index.
