@@ -13,10 +13,11 @@ use Rattle.rules.specs.Index.{Entry, entryAt, liveType, runType, typeDirectory,
 use Rattle.rules.specs.Index.Items.{head-run, type-drop}
 use Rattle.rules.specs.Paths.{isLive, pathsSound}
 use Rattle.rules.specs.Paths.Laws.{live-run}
+use Rattle.laws.proofs.Lists.Every.{all-keep}
 use Rattle.laws.proofs.Lists.Perms.{perm-all, perm-map}
 use Rattle.ordering.specs.Order.{turned, Sorted}
 use Rattle.ordering.specs.Turning.{turned-perm}
-use Rattle.ordering.specs.Keys.{placeOf, keyPath, keyLe}
+use Rattle.ordering.specs.Keys.{placeOf, keyLe}
 use Rattle.ordering.specs.Paths.{pathLe, noSlash, follows, entryFollows, chainFrom, chain}
 use Rattle.ordering.specs.Chains.{chain-sound, chain-decides}
 use Rattle.numbering.specs.Numbers.{loaded, loaded-place, Stands, loaded-stand, stands-le, key-path-is}
@@ -29,9 +30,10 @@ use Rattle.index.specs.Steps.{Walks, Reached, entriesFrom}
 unfoldable pub keyEntry : List ℕ → Cursor → ℕ → Entry
 keyEntry s c k = entryAt (c .slot .0 + placeOf k) (drop (c .at .0 + slotBytes * placeOf k) s)
 
--- the keys from place i on are of the live entries, the last one first
+-- the keys from place i on are of the live entries, the last one first, and have no numbers yet
 pub record Gathered (s : List ℕ) (c : Cursor) (keys : List ℕ) (i : ℕ) : Type 0 where
   pub inside : i ≤ length keys
+  pub small : All (λ k. k < 65_536) (drop i keys)
   pub entries : map (keyEntry s c) (drop i keys) ≡ turned (only isLive (entriesFrom s c))
 
 -- ---- the loop: what is gathered, behind what is to come
@@ -42,6 +44,7 @@ pub record GatheringLive (s : List ℕ) (from : Cursor) (keys : List ℕ) (c : C
   pub ahead : from .slot .0 ≤ c .slot .0
   pub ends : c .slot .0 + c .left ≡ from .slot .0 + from .left
   pub place : c .at .0 + 64 * from .slot .0 ≡ from .at .0 + 64 * c .slot .0
+  pub small : All (λ k. k < 65_536) (drop i keys)
   pub gathered : turned (only isLive (entriesFrom s c)) ++ map (keyEntry s from) (drop i keys) ≡ turned (only isLive (entriesFrom s from))
 
 -- the entry that was found, by its place
@@ -86,6 +89,7 @@ module _ (s : List ℕ) (from : Cursor) where
     ahead = omega arith;
     ends = refl;
     place = refl;
+    small = rw (drop-length keys) tt;
     gathered = ap (λ (ks : List ℕ). turned (only isLive (entriesFrom s from)) ++ map (keyEntry s from) ks) (drop-length keys) ∙ append-nil (turned (only isLive (entriesFrom s from)));
   }
 
@@ -94,6 +98,7 @@ module _ (s : List ℕ) (from : Cursor) where
     unfolding only turned
     gather-end e = record {
       inside = at .within;
+      small = at .small;
       entries = ap (λ (es : List Entry). turned (only isLive es) ++ map (keyEntry s from) (drop i keys)) (sym e) ∙ at .gathered;
     }
 
@@ -111,6 +116,7 @@ module _ (s : List ℕ) (from : Cursor) where
         ahead = omega (arith, step .number, step .ahead, at .ahead);
         ends = step .ends ∙ at .ends;
         place = omega (arith, step .place, step .after, step .number, at .place);
+        small = rw p (all-keep _ (liveType (e .kind)) _ _ key-small (at .small));
         gathered =
             ap (λ (ks : List ℕ). turned (only isLive (entriesFrom s d)) ++ map (keyEntry s from) ks) p
             ∙ ap (λ (ys : List Entry). turned (only isLive (entriesFrom s d)) ++ ys) (found-kept s c e d step from (e .slot .0 - from .slot .0) key-small (omega (arith, step .ahead, at .ahead)) (omega (arith, step .ahead, at .ahead, step .place, at .place)) (drop i keys))
@@ -159,6 +165,11 @@ module _ (s : List ℕ) (c : Cursor) (keys : List ℕ) (i : ℕ) (g : Gathered s
         (entry-pairs after (perm-all _ p (loaded-stand s (c .at .0) pivot (drop i keys))) (sorted .ascends)))
 
 -- ---- the loop that goes from neighbour to neighbour
+pub key-here : (keys : List ℕ) (i k : ℕ) → i < length keys → k ≡ getD keys i 0 → drop i keys ≡ k ∷ drop (i + 1) keys
+key-here keys i k more here =
+    let e : suc i ≡ i + 1 = omega arith in
+    drop-cons keys i 0 more ∙ ap₂ (λ (x j : ℕ). x ∷ drop j keys) (sym here) e
+
 module _ (f : ℕ → Entry) (keys : List ℕ) (i : ℕ) where
   pub chain-end : (e : Entry) → length keys ≤ i → true ≡ chainFrom e (map f (drop i keys))
   unfolding chainFrom
@@ -169,26 +180,21 @@ module _ (f : ℕ → Entry) (keys : List ℕ) (i : ℕ) where
   chain-nothing h = rw (drop-of-length-le keys {i = i} h)
 
   module _ (k : ℕ) (more : i < length keys) (here : k ≡ getD keys i 0) where
-    key-here : drop i keys ≡ k ∷ drop (i + 1) keys
-    key-here =
-        let e : suc i ≡ i + 1 = omega arith in
-        drop-cons keys i 0 more ∙ ap₂ (λ (x j : ℕ). x ∷ drop j keys) (sym here) e
-
     pub chain-stop : (e : Entry) → entryFollows e (f k) ≡ false → false ≡ chainFrom e (map f (drop i keys))
     unfolding chainFrom
-    chain-stop e h = rw (key-here, h)
+    chain-stop e h = rw (key-here keys i k more here, h)
 
     pub chain-next : (e : Entry) → entryFollows e (f k) ≡ true → chainFrom (f k) (map f (drop (i + 1) keys)) ≡ chainFrom e (map f (drop i keys))
     unfolding chainFrom
-    chain-next e h = rw (key-here, h)
+    chain-next e h = rw (key-here keys i k more here, h)
 
     pub chain-above : noSlash (f k .path) ≡ false → false ≡ chain (map f (drop i keys))
     unfolding chain
-    chain-above h = rw (key-here, h)
+    chain-above h = rw (key-here keys i k more here, h)
 
     pub chain-first : noSlash (f k .path) ≡ true → chainFrom (f k) (map f (drop (i + 1) keys)) ≡ chain (map f (drop i keys))
     unfolding chain
-    chain-first h = rw (key-here, h)
+    chain-first h = rw (key-here keys i k more here, h)
 
 -- what is read of an entry at its key's place
 module _ (s : List ℕ) (c : Cursor) (k p : ℕ) (place : p ≡ k % 65_536) where

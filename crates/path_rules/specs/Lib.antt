@@ -1,3 +1,4 @@
 pub mod Turns
 pub mod Names
 pub mod Gathering
+pub mod Shared

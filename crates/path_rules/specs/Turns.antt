@@ -1,19 +1,14 @@
 -- The directory of a path, as the code looks for it: from the last slash back.
 use Prim.Native.Nat.{ℕ, _-_, _≤_, _<_}
 use mathlib.Core.Path.{_≡_, refl, sym, ap, _∙_}
-use mathlib.Core.Bool.{Bool, true, false, _&&_, _||_, not}
+use mathlib.Core.Bool.{true}
 use mathlib.Core.List.{List, [], _∷_, _++_}
 use lib.ListN.{length, getD, take}
-use Rattle.rules.specs.Lists.{all, isSome}
-use Rattle.rules.specs.Lists.Laws.{all-append, and-left, and-right, and-last}
 use Rattle.rules.specs.Names.{slash, leading}
 use Rattle.rules.specs.Names.Laws.{leading-slash, leading-other, leading-nil}
-use Rattle.rules.specs.Index.{Entry, liveType}
-use Rattle.rules.specs.Paths.{isLive, lookup, directoryLive, directoriesLive, pathsDiffer}
-use Rattle.rules.specs.Paths.Laws.{differ-dead, differ-live}
+use Rattle.rules.specs.Index.{Entry}
+use Rattle.rules.specs.Paths.{directoryLive}
 use Rattle.rules.specs.Writing.{nearestLive}
-use Rattle.slots.specs.declared.Head.{Head}
-use Rattle.slots.specs.View.{headView}
 
 nearest-last : (es : List Entry) (ps : List (List ℕ)) (p : List ℕ) → nearestLive es (ps ++ (p ∷ [])) ≡ directoryLive es p
 unfolding nearestLive

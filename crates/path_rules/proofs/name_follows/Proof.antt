@@ -1,5 +1,5 @@
 use Prim.Native.Nat.{ℕ, _+_, _-_, _<_}
-use mathlib.Core.Path.{_≡_, refl, sym, ap, ap₂, _∙_}
+use mathlib.Core.Path.{_≡_, ap, ap₂, _∙_}
 use mathlib.Core.List.{List}
 use native.Mathlib.Omega.{arith}
 use lib.ListN.{length, drop}
@@ -10,14 +10,15 @@ use Rattle.rules.specs.Fields.{upToZero}
 use Rattle.ordering.specs.Paths.{follows}
 use Rattle.ordering.specs.Starts.{startsAt, starts-as, more-bytes}
 use Rattle.path_rules.specs.Names.{both-end, both-on}
+use Rattle.path_rules.specs.Shared.{names-behind}
 use Rattle.path_rules.proofs.name_follows.Statement.{statement}
 use Rattle.path_rules.proofs.name_follows.Tie as tie
 
 abbrev Inv-loop : tie.InvT-loop
-Inv-loop directory a b i₀ i = follows directory (upToZero (drop i a)) (upToZero (drop i b)) ≡ follows directory (upToZero a) (upToZero b)
+Inv-loop directory a b from i₀ i = follows directory (upToZero (drop i a)) (upToZero (drop i b)) ≡ follows directory (upToZero a) (upToZero b)
 
 abbrev μ-loop : tie.MeasureT-loop
-μ-loop directory a b i₀ i = length a - i
+μ-loop directory a b from i₀ i = length a - i
 
 parted-requires : tie.Need-parted-requires Inv-loop μ-loop
 parted-requires c κs = (c .before .byte-at2 .ensures, ne-eqb _ _ (c .if1 .taken))
@@ -60,7 +61,7 @@ name-follows-spec =
     (tie.spec
     Inv-loop
     μ-loop
-    (λ c. refl)
+    (λ c. names-behind _ _ _ _ (c .before .before .pre))
     (λ c κs. search needs)
     (λ c κs. search needs)
     parted-requires
