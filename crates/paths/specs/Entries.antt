@@ -1,26 +1,24 @@
 -- Tests over entries, one at a time.
 use Prim.Native.Nat.{ℕ}
-use mathlib.Core.Path.{_≡_, refl, sym, ap, _∙_}
-use mathlib.Core.Bool.{Bool, true, false}
+use mathlib.Core.Path.{_≡_, refl, sym, ap, ap₂, _∙_}
+use mathlib.Core.Bool.{Bool, true, false, _&&_, _||_}
 use mathlib.Core.List.{List, [], _∷_}
-use lib.Dec.{leb}
+use mathlib.Core.Logic.{_⊎_, inl, inr}
+use lib.Dec.{eqb}
 use borrow.Author.Tests.{eqb-true}
-use Rattle.rules.specs.Lists.{pick, only, eqList}
-use Rattle.rules.specs.Lists.Laws.{and-true, only-nil, only-yes, only-no}
+use Rattle.rules.specs.Lists.{pick, any, only, eqList}
+use Rattle.rules.specs.Lists.Laws.{and-true, or-other, only-nil, only-yes, only-no}
 use Rattle.rules.specs.Fields.{hasZero}
-use Rattle.rules.specs.Index.{Entry, runType, typeDirectory, nameGood}
+use Rattle.rules.specs.Index.{Entry, runType, directoryType, fileType, typeDirectory, typeFile, typeDeletedDirectory, typeDeletedFile, nameGood}
+use Rattle.rules.specs.Paths.{isDirectoryAt, directoryLive}
 use Rattle.rules.specs.Names.{slash, isBelow}
-use Rattle.rules.specs.Paths.{isLive, isDeleted, liveAt, deletedAt, isDirectoryAt}
-use Rattle.rules.specs.Paths.Laws.{live-run, gone-run, directory-run}
 use Rattle.rules.specs.Comparing.{looked}
 use Rattle.comparing.specs.Walk.{isThen}
 use Rattle.comparing.specs.Names.{then-path, then-below}
-use Rattle.units.specs.declared.Slot.{Slot}
 use Rattle.slots.specs.declared.Spot.{Spot}
 use Rattle.slots.specs.View.{spotView, SpotIn, path-is}
 use Rattle.paths.specs.declared.Sought.{Sought}
-use Rattle.paths.specs.declared.Sought.the-variants.{Path as byPath, Deleted as byDeleted, Directory as byDirectory, Below as byBelow, From as bySlot}
-use Rattle.paths.specs.View.{liveBelow, soughtKind, passes, byName, compares, nameOf, spotLooked}
+use Rattle.paths.specs.View.{soughtKind, reaches, passes, compares, OfRuns, nameOf, spotLooked}
 
 -- ---- a turn of a walk over es: none is left, or x is next and xs behind it
 module _ (p : Entry → Bool) (es : List Entry) where
@@ -46,51 +44,64 @@ module _ (s p : List ℕ) (e : Spot) (here : SpotIn s e) (run : runType (e .kind
   unfolding spotView
   name-below = then-below (nameOf s e) p ∙ ap (isBelow p) (sym (path-is s _ _ _ here run))
 
--- ---- an entry, tried by its kind first
-module _ (s p : List ℕ) (e : Spot) where
+  -- by the byte that is to stand behind the path
+  pub name-reaches : (end : ℕ) → (end ≡ 0) ⊎ (end ≡ slash) → isThen end (nameOf s e) p ≡ reaches end p (spotView s e .path)
+  unfolding reaches pick
+  name-reaches end (inl z) = rw z name-is
+  name-reaches end (inr z) = rw z name-below
+
+-- ---- an entry, tried by its type first
+pub sought-run : (what : Sought) (t : ℕ) → OfRuns what → soughtKind what t ≡ true → runType t ≡ true
+unfolding soughtKind
+sought-run what t of e = by (eqb t (what .one)) refl
+  where
+    by : (b : Bool) → eqb t (what .one) ≡ b → runType t ≡ true
+    by true a = ap runType (eqb-true t (what .one) a) ∙ of .one
+    by false a = ap runType (eqb-true t (what .other) (or-other _ _ e a)) ∙ of .other
+
+module _ (s p : List ℕ) (e : Spot) (what : Sought) where
   -- what a trial answers
-  abbrev pub Tried : Sought → Bool → ℕ → Type 0
-  Tried what same n = (same ≡ passes what p (spotView s e)) × (n ≡ spotLooked s e what p)
+  abbrev pub Tried : Bool → ℕ → Type 0
+  Tried same n = (same ≡ passes what p (spotView s e)) × (n ≡ spotLooked s e what p)
 
-  pub tried-not : (what : Sought) → soughtKind what (e .kind) ≡ false → Tried what false 0
-  unfolding soughtKind passes byName compares spotLooked liveAt deletedAt isDirectoryAt liveBelow isLive isDeleted spotView pick
-  tried-not byPath t = rw t (refl, refl)
-  tried-not byDeleted t = rw t (refl, refl)
-  tried-not byDirectory t = rw t (refl, refl)
-  tried-not byBelow t = rw t (refl, refl)
-  tried-not (bySlot k) t = rw t (refl, refl)
+  pub tried-not : soughtKind what (e .kind) ≡ false → Tried false 0
+  unfolding passes compares spotLooked spotView pick
+  tried-not t = rw t (refl, refl)
 
-  -- what compares names
-  module _ (same : Bool) (n : ℕ) (count : n ≡ looked (nameOf s e) p) where
-    pub tried-path : soughtKind byPath (e .kind) ≡ true → same ≡ eqList (spotView s e .path) p → Tried byPath same n
-    unfolding soughtKind passes byName compares spotLooked liveAt isLive spotView pick
-    tried-path t e = rw t (e, count)
-
-    pub tried-deleted : soughtKind byDeleted (e .kind) ≡ true → same ≡ eqList (spotView s e .path) p → Tried byDeleted same n
-    unfolding soughtKind passes byName compares spotLooked deletedAt isDeleted spotView pick
-    tried-deleted t e = rw t (e, count)
-
-    pub tried-directory : soughtKind byDirectory (e .kind) ≡ true → same ≡ eqList (spotView s e .path) p → Tried byDirectory same n
-    unfolding soughtKind passes byName compares spotLooked isDirectoryAt spotView pick
-    tried-directory t e = rw t (e, count)
-
-    pub tried-below : soughtKind byBelow (e .kind) ≡ true → same ≡ isBelow p (spotView s e .path) → Tried byBelow same n
-    unfolding soughtKind passes byName compares spotLooked liveBelow isLive spotView pick
-    tried-below t e = rw t (e, count)
-
-  pub tried-from : (k : Slot) (same : Bool) → soughtKind (bySlot k) (e .kind) ≡ true → same ≡ leb (k .0) (e .slot .0) → Tried (bySlot k) same 0
-  unfolding soughtKind passes byName compares spotLooked isLive spotView pick
-  tried-from k same t e = rw t (e, refl)
-
-  pub sought-run : (what : Sought) → soughtKind what (e .kind) ≡ true → runType (e .kind) ≡ true
-  unfolding soughtKind
-  sought-run byPath t = live-run (e .kind) t
-  sought-run byDeleted t = gone-run (e .kind) t
-  sought-run byDirectory t = directory-run (e .kind) (eqb-true (e .kind) typeDirectory t)
-  sought-run byBelow t = live-run (e .kind) t
-  sought-run (bySlot k) t = live-run (e .kind) t
+  pub tried : (same : Bool) (n : ℕ) → soughtKind what (e .kind) ≡ true → same ≡ reaches (what .end) p (spotView s e .path) → n ≡ looked (nameOf s e) p → Tried same n
+  unfolding passes compares spotLooked spotView pick
+  tried same n t q count = rw t (q, count)
 
   -- a name that is compared is a run's
-  pub compared-run : (what : Sought) → compares what (spotView s e) ≡ true → runType (e .kind) ≡ true
+  pub compared-run : OfRuns what → compares what (spotView s e) ≡ true → runType (e .kind) ≡ true
   unfolding compares spotView
-  compared-run what t = sought-run what (and-true (byName what) (soughtKind what (e .kind)) t .1)
+  compared-run of t = sought-run what (e .kind) of t
+
+-- ---- the four searches
+abbrev soughtBy : ℕ → ℕ → ℕ → Sought
+soughtBy one other end = record { one = one; other = other; end = end }
+
+pub of-live : OfRuns (soughtBy typeDirectory typeFile 0)
+unfolding runType directoryType fileType
+of-live = record { one = refl; other = refl; end = inl refl }
+
+pub of-deleted : OfRuns (soughtBy typeDeletedDirectory typeDeletedFile 0)
+unfolding runType directoryType fileType
+of-deleted = record { one = refl; other = refl; end = inl refl }
+
+pub of-directory : OfRuns (soughtBy typeDirectory typeDirectory 0)
+unfolding runType directoryType fileType
+of-directory = record { one = refl; other = refl; end = inl refl }
+
+pub of-below : OfRuns (soughtBy typeDirectory typeFile slash)
+unfolding runType directoryType fileType
+of-below = record { one = refl; other = refl; end = inr refl }
+
+either-same : (b : Bool) → (b || b) ≡ b
+either-same true = refl
+either-same false = refl
+
+pub any-directory : (p : List ℕ) (es : List Entry) → any (passes (soughtBy typeDirectory typeDirectory 0) p) es ≡ directoryLive es p
+unfolding any passes soughtKind reaches pick directoryLive isDirectoryAt
+any-directory p [] = refl
+any-directory p (e ∷ es) = ap₂ (λ (a b : Bool). a && eqList (e .path) p || b) (either-same (eqb (e .kind) typeDirectory)) (any-directory p es)

@@ -21,17 +21,17 @@ use Rattle.index.specs.Steps.{Walks, entriesFrom, Reached}
 use Rattle.paths.specs.declared.Sought.{Sought}
 use Rattle.paths.specs.declared.Hit.{Hit}
 use Rattle.paths.specs.declared.Hit.the-variants.{Nothing as noHit, Entry as hitAt}
-use Rattle.paths.specs.View.{passes, compares, nameOf, spotLooked, LookedFrom, Hits, hits-none, hits-some}
+use Rattle.paths.specs.View.{passes, compares, OfRuns, nameOf, spotLooked, LookedFrom, Hits, hits-none, hits-some}
 use Rattle.paths.specs.Entries.{only-end, only-stop, only-next, compared-run}
 
 -- ---- one entry
 -- no name has more than 16,384 bytes, and one of them may be looked at twice
-pub spot-few : (s : List ℕ) (e : Spot) (what : Sought) (p : List ℕ) → SpotIn s e → spotLooked s e what p ≤ 16_385
+pub spot-few : (s : List ℕ) (e : Spot) (what : Sought) (p : List ℕ) → OfRuns what → SpotIn s e → spotLooked s e what p ≤ 16_385
 unfolding spotLooked
-spot-few s e what p here = by (compares what (spotView s e)) refl
+spot-few s e what p of here = by (compares what (spotView s e)) refl
   where
     by : (t : Bool) → compares what (spotView s e) ≡ t → pick t (looked (nameOf s e) p) 0 ≤ 16_385
-    by true c = omega (arith, pick-true (looked (nameOf s e) p) 0 refl, looked-most (nameOf s e) p, name-short s _ _ _ here (compared-run s p e what c))
+    by true c = omega (arith, pick-true (looked (nameOf s e) p) 0 refl, looked-most (nameOf s e) p, name-short s _ _ _ here (compared-run s p e what of c))
     by false c = omega (arith, pick-false (looked (nameOf s e) p) 0 refl)
 
 -- a spot at its slot's place is looked at as the rules' entry is
@@ -72,13 +72,13 @@ module _ (s : List ℕ) (what : Sought) (p : List ℕ) (c : Cursor) where
       λ g e. sym (add-zero n) ∙ ap (λ (k : ℕ). n + k) (sym (looked-end s g _ _ p _ z)) ∙ going .count g e,
     )
 
-    module _ (e : Spot) (d′ : Cursor) (step : Reached s d e d′) (m : ℕ) (tried : m ≡ spotLooked s e what p) where
+    module _ (of : OfRuns what) (e : Spot) (d′ : Cursor) (step : Reached s d e d′) (m : ℕ) (tried : m ≡ spotLooked s e what p) where
       here : (g : Geometry) → c .at .0 ≡ slotAt s g (c .slot .0) → entryLooked s g (compares what) p (spotView s e) ≡ m
       unfolding slotAt
       here g q = spot-entry s g e what p (omega (arith, q, going .place, step .place)) ∙ sym tried
 
       pub going-room : n + m < 2 ^ 64
-      going-room = omega (arith, going .few, tried, spot-few s e what p (step .spot))
+      going-room = omega (arith, going .few, tried, spot-few s e what p of (step .spot))
 
       pub going-found : passes what p (spotView s e) ≡ true → (h : Head) → headView s h ≡ headOf (e .slot .0) (drop (e .at .0) s) → h .at .0 ≡ e .at .0 → Comes (hitAt h d′) (n + m)
       going-found t h view place =
@@ -99,5 +99,5 @@ module _ (s : List ℕ) (what : Sought) (p : List ℕ) (c : Cursor) where
         count = λ g q.
             let next : lookedFrom g d ≡ entryLooked s g (compares what) p (spotView s e) + lookedFrom g d′ = looked-next s g _ _ p _ _ _ (step .entries) t in
             omega (arith, next, here g q, going .count g q);
-        few = omega (arith, going .few, step .less, tried, spot-few s e what p (step .spot));
+        few = omega (arith, going .few, step .less, tried, spot-few s e what p of (step .spot));
       }

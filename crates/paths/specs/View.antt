@@ -1,17 +1,18 @@
 -- The code's answers in the rules' words.
 use Prim.Native.Nat.{ℕ}
 use mathlib.Core.Path.{_≡_, refl, sym, ap, _∙_}
-use mathlib.Core.Bool.{Bool, true, false, _&&_}
+use mathlib.Core.Bool.{Bool, true, false, _&&_, _||_}
 use mathlib.Core.List.{List, [], _∷_}
 use mathlib.Core.Option.{Option, none, some}
+use mathlib.Core.Logic.{_⊎_}
 use lib.ListN.{drop}
 use lib.Dec.{eqb, leb}
-use Rattle.rules.specs.Lists.{pick, isSome, only, first}
+use Rattle.rules.specs.Lists.{pick, isSome, only, first, eqList}
 use Rattle.rules.specs.Lists.Laws.{first-chosen, first-unchosen}
 use Rattle.rules.specs.SuperBlock.{Geometry}
-use Rattle.rules.specs.Names.{isBelow}
-use Rattle.rules.specs.Index.{Entry, liveType, deletedType, typeDirectory, nameField, slotAt}
-use Rattle.rules.specs.Paths.{isLive, liveAt, deletedAt, isDirectoryAt}
+use Rattle.rules.specs.Names.{slash, isBelow}
+use Rattle.rules.specs.Index.{Entry, runType, nameField, slotAt}
+use Rattle.rules.specs.Paths.{isLive}
 use Rattle.rules.specs.Comparing.{looked, searchLooked}
 use Rattle.slots.specs.declared.Head.{Head}
 use Rattle.slots.specs.declared.Spot.{Spot}
@@ -23,37 +24,31 @@ use Rattle.index.specs.Steps.{Walks, entriesFrom}
 use Rattle.paths.specs.declared.Hit.{Hit}
 use Rattle.paths.specs.declared.Hit.the-variants.{Nothing as noHit, Entry as hitAt}
 use Rattle.paths.specs.declared.Sought.{Sought}
-use Rattle.paths.specs.declared.Sought.the-variants.{Path as byPath, Deleted as byDeleted, Directory as byDirectory, Below as byBelow, From as bySlot}
 
 -- ---- what is looked for
-unfoldable pub liveBelow : List ℕ → Entry → Bool
-liveBelow p e = isLive e && isBelow p (e .path)
-
--- the kinds of entries that may pass
 unfoldable pub soughtKind : Sought → ℕ → Bool
-soughtKind byPath t = liveType t
-soughtKind byDeleted t = deletedType t
-soughtKind byDirectory t = eqb t typeDirectory
-soughtKind byBelow t = liveType t
-soughtKind (bySlot k) t = liveType t
+soughtKind what t = eqb t (what .one) || eqb t (what .other)
+
+-- what a path is to the one that is looked for, by the byte behind it: the same, or below it
+unfoldable pub reaches : ℕ → List ℕ → List ℕ → Bool
+reaches end p q = pick (eqb end 0) (eqList q p) (isBelow p q)
 
 unfoldable pub passes : Sought → List ℕ → Entry → Bool
-passes byPath p e = liveAt p e
-passes byDeleted p e = deletedAt p e
-passes byDirectory p e = isDirectoryAt p e
-passes byBelow p e = liveBelow p e
-passes (bySlot k) p e = isLive e && leb (k .0) (e .slot)
+passes what p e = soughtKind what (e .kind) && reaches (what .end) p (e .path)
 
 -- whose names are compared with the path
-unfoldable pub byName : Sought → Bool
-byName byPath = true
-byName byDeleted = true
-byName byDirectory = true
-byName byBelow = true
-byName (bySlot k) = false
-
 unfoldable pub compares : Sought → Entry → Bool
-compares what e = byName what && soughtKind what (e .kind)
+compares what e = soughtKind what (e .kind)
+
+-- only runs are looked for, by a path or by one that they lie below
+pub record OfRuns (what : Sought) : Type 0 where
+  pub one : runType (what .one) ≡ true
+  pub other : runType (what .other) ≡ true
+  pub end : (what .end ≡ 0) ⊎ (what .end ≡ slash)
+
+-- by slots
+unfoldable pub liveFrom : ℕ → Entry → Bool
+liveFrom k e = isLive e && leb k (e .slot)
 
 -- the name of the run at a spot, by all its bytes, and how many of them are looked at
 abbrev pub nameOf : List ℕ → Spot → List ℕ

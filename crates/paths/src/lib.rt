@@ -11,15 +11,16 @@ use slots::Spot;
 use units::Slot;
 ghost use mathlib.Core.Path.{_≡_};
 ghost use mathlib.Core.Bool.{true};
-ghost use Rattle.rules.specs.Lists.{eqList, any, first};
-ghost use Rattle.rules.specs.Names.{isBelow};
+ghost use mathlib.Core.List.{List};
+ghost use Prim.Native.Nat.{ℕ};
+ghost use Rattle.rules.specs.Lists.{any, first};
 ghost use Rattle.rules.specs.Index.{runType};
 ghost use Rattle.rules.specs.Paths.{isLive, liveAt, deletedAt, lookup, nextLive, directoryLive, anyBelow};
 ghost use Rattle.rules.specs.Comparing.{looked};
 ghost use Rattle.comparing.specs.Walk.{isThen};
 ghost use Rattle.slots.specs.View.{spotView, SpotIn};
 ghost use Rattle.index.specs.Steps.{Walks, entriesFrom};
-ghost use Rattle.paths.specs.View.{Hits, Searched, isFound, passes, soughtKind, compares, nameOf, spotLooked, LookedFrom};
+ghost use Rattle.paths.specs.View.{Hits, Searched, isFound, passes, soughtKind, compares, OfRuns, liveFrom, nameOf, spotLooked, LookedFrom};
 
 pub enum Search {
     Nothing,
@@ -34,6 +35,48 @@ pub enum Hit {
 
 // ---- one entry
 
+// What an entry is looked for by, beside a path: its type is one of the two, and its name is the path and then this byte, zero for the path itself,
+// a slash for what lies below it. Plain numbers, since a search asks them of every entry.
+struct Sought {
+    one: u8,
+    other: u8,
+    end: u8,
+}
+
+const LIVE: Sought = Sought {
+    one: slots::DIRECTORY,
+    other: slots::FILE,
+    end: 0,
+};
+
+const DELETED: Sought = Sought {
+    one: slots::DELETED_DIRECTORY,
+    other: slots::DELETED_FILE,
+    end: 0,
+};
+
+const DIRECTORY: Sought = Sought {
+    one: slots::DIRECTORY,
+    other: slots::DIRECTORY,
+    end: 0,
+};
+
+const BELOW: Sought = Sought {
+    one: slots::DIRECTORY,
+    other: slots::FILE,
+    end: b'/',
+};
+
+// Whether an entry of this type may pass.
+fn is_sought(what: Sought, kind: u8) -> bool
+    ensures { λ r. ⌜ r ≡ soughtKind what kind ⌝ }
+{
+    if kind == what.one {
+        return true;
+    }
+    kind == what.other
+}
+
 // The name of the run's entry, compared with the path and the byte `end` behind it.
 fn compare_name(img: &[u8], e: Spot, path: &[u8], end: u8) -> Compared
     requires { ⌜ SpotIn (now img) e × (runType (e .kind) ≡ true) ⌝ }
@@ -43,65 +86,16 @@ fn compare_name(img: &[u8], e: Spot, path: &[u8], end: u8) -> Compared
     compare(slots::name_field(img, e.at), path, end)
 }
 
-// Whether the run's entry has this path.
-fn has_path(img: &[u8], e: Spot, path: &[u8]) -> Compared
-    requires { ⌜ SpotIn (now img) e × (runType (e .kind) ≡ true) ⌝ }
-    ensures { λ r. ⌜ r .same ≡ eqList (spotView (now (img .entry)) e .path) (now (path .entry)) ⌝ }
-    ensures counted { λ r. ⌜ r .looked ≡ looked (nameOf (now (img .entry)) e) (now (path .entry)) ⌝ }
-{
-    compare_name(img, e, path, 0)
-}
-
-// Whether the run's entry lies below this path.
-fn lies_below(img: &[u8], e: Spot, path: &[u8]) -> Compared
-    requires { ⌜ SpotIn (now img) e × (runType (e .kind) ≡ true) ⌝ }
-    ensures { λ r. ⌜ r .same ≡ isBelow (now (path .entry)) (spotView (now (img .entry)) e .path) ⌝ }
-    ensures counted { λ r. ⌜ r .looked ≡ looked (nameOf (now (img .entry)) e) (now (path .entry)) ⌝ }
-{
-    compare_name(img, e, path, b'/')
-}
-
-// What an entry is looked for by; a path stands beside it.
-enum Sought {
-    Path,
-    Deleted,
-    Directory,
-    Below,
-    From(Slot),
-}
-
-// Whether an entry of this kind may pass.
-fn is_sought(what: Sought, kind: u8) -> bool
-    ensures { λ r. ⌜ r ≡ soughtKind what kind ⌝ }
-{
-    match what {
-        Sought::Path => slots::is_live(kind),
-        Sought::Deleted => slots::is_deleted(kind),
-        Sought::Directory => kind == slots::DIRECTORY,
-        Sought::Below => slots::is_live(kind),
-        Sought::From(_) => slots::is_live(kind),
-    }
-}
-
-// Whether the entry passes (`same`), and how many bytes of its name were looked at. A name is compared only where the kind is sought.
+// Whether the entry passes (`same`), and how many bytes of its name were looked at. A name is compared only where the type is sought.
 fn passes(img: &[u8], e: Spot, what: Sought, path: &[u8]) -> Compared
-    requires { ⌜ SpotIn (now img) e ⌝ }
+    requires { ⌜ SpotIn (now img) e × OfRuns what ⌝ }
     ensures { λ r. ⌜ r .same ≡ passes what (now (path .entry)) (spotView (now (img .entry)) e) ⌝ }
     ensures counted { λ r. ⌜ r .looked ≡ spotLooked (now (img .entry)) e what (now (path .entry)) ⌝ }
 {
     if !is_sought(what, e.kind) {
         return apart(0);
     }
-    match what {
-        Sought::Path => has_path(img, e, path),
-        Sought::Deleted => has_path(img, e, path),
-        Sought::Directory => has_path(img, e, path),
-        Sought::Below => lies_below(img, e, path),
-        Sought::From(slot) => Compared {
-            same: slot.is_at_or_before(e.slot),
-            looked: 0,
-        },
-    }
+    compare_name(img, e, path, what.end)
 }
 
 // ---- searches
@@ -119,7 +113,7 @@ pub struct Found {
 
 // The first entry that passes, and where the walk goes on behind it. Only its numbers are read.
 fn next_hit(img: &[u8], from: Cursor, what: Sought, path: &[u8]) -> Met
-    requires { ⌜ Walks (now img) from ⌝ }
+    requires { ⌜ Walks (now img) from × OfRuns what ⌝ }
     ensures { λ r. ⌜ Hits (now (img .entry)) (passes what (now (path .entry))) (entriesFrom (now (img .entry)) from) (r .hit) ⌝ }
     ensures counted { λ r. ⌜ LookedFrom (now (img .entry)) from (compares what) (passes what (now (path .entry))) (now (path .entry)) (r .looked) ⌝ }
 {
@@ -149,7 +143,7 @@ fn next_hit(img: &[u8], from: Cursor, what: Sought, path: &[u8]) -> Met
 
 // The first entry that passes, and how many bytes of names were looked at.
 fn seek(img: &[u8], from: Cursor, what: Sought, path: &[u8]) -> Found
-    requires { ⌜ Walks (now img) from ⌝ }
+    requires { ⌜ Walks (now img) from × OfRuns what ⌝ }
     ensures { λ r. ⌜ Searched (now (img .entry)) (first (passes what (now (path .entry))) (entriesFrom (now (img .entry)) from)) (r .entry) ⌝ }
     ensures counted { λ r. ⌜ LookedFrom (now (img .entry)) from (compares what) (passes what (now (path .entry))) (now (path .entry)) (r .looked) ⌝ }
 {
@@ -178,7 +172,7 @@ pub fn is_found(s: Search) -> bool
 
 // Whether an entry passes.
 fn any_passes(img: &[u8], from: Cursor, what: Sought, path: &[u8]) -> bool
-    requires { ⌜ Walks (now img) from ⌝ }
+    requires { ⌜ Walks (now img) from × OfRuns what ⌝ }
     ensures { λ r. ⌜ r ≡ any (passes what (now (path .entry))) (entriesFrom (now (img .entry)) from) ⌝ }
 {
     let found = seek(img, from, what, path).entry;
@@ -191,7 +185,7 @@ pub fn find(img: &[u8], from: Cursor, path: &[u8]) -> Found
     ensures { λ r. ⌜ Searched (now (img .entry)) (lookup (now (path .entry)) (entriesFrom (now (img .entry)) from)) (r .entry) ⌝ }
     ensures counted { λ r. ⌜ LookedFrom (now (img .entry)) from isLive (liveAt (now (path .entry))) (now (path .entry)) (r .looked) ⌝ }
 {
-    seek(img, from, Sought::Path, path)
+    seek(img, from, LIVE, path)
 }
 
 // The live entry of the path.
@@ -207,7 +201,7 @@ pub fn first_deleted(img: &[u8], from: Cursor, path: &[u8]) -> Hit
     requires { ⌜ Walks (now img) from ⌝ }
     ensures { λ r. ⌜ Hits (now (img .entry)) (deletedAt (now (path .entry))) (entriesFrom (now (img .entry)) from) r ⌝ }
 {
-    next_hit(img, from, Sought::Deleted, path).hit
+    next_hit(img, from, DELETED, path).hit
 }
 
 // Whether a deleted entry has this path.
@@ -215,7 +209,14 @@ pub fn any_deleted(img: &[u8], from: Cursor, path: &[u8]) -> bool
     requires { ⌜ Walks (now img) from ⌝ }
     ensures { λ r. ⌜ r ≡ any (deletedAt (now (path .entry))) (entriesFrom (now (img .entry)) from) ⌝ }
 {
-    any_passes(img, from, Sought::Deleted, path)
+    any_passes(img, from, DELETED, path)
+}
+
+// Whether the entry is live and starts at this slot or behind it.
+fn is_from(e: Spot, slot: Slot) -> bool
+    ensures { λ r. ⌜ ((s : List ℕ) → r ≡ liveFrom (slot .0) (spotView s e)) ⌝ }
+{
+    slots::is_live(e.kind) && slot.is_at_or_before(e.slot)
 }
 
 // The live entry with the lowest first slot not below this one.
@@ -223,7 +224,19 @@ pub fn next_live(img: &[u8], from: Cursor, slot: Slot) -> Search
     requires { ⌜ Walks (now img) from ⌝ }
     ensures { λ r. ⌜ Searched (now (img .entry)) (nextLive (slot .0) (entriesFrom (now (img .entry)) from)) r ⌝ }
 {
-    seek(img, from, Sought::From(slot), b"").entry
+    let mut at = from;
+    loop {
+        match next_spot(img, at) {
+            Stop::End => return Search::Nothing,
+            Stop::At(e, rest) => {
+                if is_from(e, slot) {
+                    let h = slots::head_at(img, e.at, e.slot);
+                    return Search::Entry(h);
+                }
+                at = rest;
+            }
+        }
+    }
 }
 
 // Whether a live directory has this path.
@@ -231,7 +244,7 @@ pub fn directory_live(img: &[u8], from: Cursor, path: &[u8]) -> bool
     requires { ⌜ Walks (now img) from ⌝ }
     ensures { λ r. ⌜ r ≡ directoryLive (entriesFrom (now (img .entry)) from) (now (path .entry)) ⌝ }
 {
-    any_passes(img, from, Sought::Directory, path)
+    any_passes(img, from, DIRECTORY, path)
 }
 
 // Whether a live entry lies below this path.
@@ -239,5 +252,5 @@ pub fn any_below(img: &[u8], from: Cursor, path: &[u8]) -> bool
     requires { ⌜ Walks (now img) from ⌝ }
     ensures { λ r. ⌜ r ≡ anyBelow (now (path .entry)) (entriesFrom (now (img .entry)) from) ⌝ }
 {
-    any_passes(img, from, Sought::Below, path)
+    any_passes(img, from, BELOW, path)
 }

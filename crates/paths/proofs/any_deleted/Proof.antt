@@ -1,11 +1,15 @@
-use Rattle.paths.specs.View.{passes}
+use Rattle.rules.specs.Lists.{pick}
+use Rattle.rules.specs.Index.{deletedType}
+use Rattle.rules.specs.Paths.{deletedAt, isDeleted}
+use Rattle.paths.specs.View.{soughtKind, reaches, passes}
+use Rattle.paths.specs.Entries.{of-deleted}
 use borrow.Author.Needs.{needs}
 use Rattle.paths.proofs.any_deleted.Statement.{statement}
 use Rattle.paths.proofs.any_deleted.Tie as tie
 
 returns : tie.Need-returns
-unfolding passes
+unfolding deletedAt isDeleted deletedType soughtKind reaches passes pick
 returns c = c .any-passes .ensures
 
 pub any-deleted-spec : {M : Type 1} → statement M
-any-deleted-spec = tie.close (tie.spec (λ c κs. search needs) returns)
+any-deleted-spec = tie.close (tie.spec (λ c κs. search (needs, of-deleted)) returns)

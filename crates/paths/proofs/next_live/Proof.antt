@@ -1,18 +1,69 @@
+use mathlib.Core.Path.{_≡_, refl, sym, ap, _∙_}
+use mathlib.Core.Option.{some}
+use native.Mathlib.Omega.{arith}
+use denote.Ref.{now}
+use Rattle.rules.specs.Lists.{only}
+use Rattle.rules.specs.Lists.Laws.{first-chosen, first-unchosen}
 use Rattle.rules.specs.Paths.{nextLive}
-use Rattle.paths.specs.View.{passes}
+use Rattle.slots.specs.View.{head-spot}
+use Rattle.index.specs.Steps.{Walks, entriesFrom, Reached}
+use Rattle.index.specs.Turns.{stops-end, stops-at}
+use Rattle.paths.specs.View.{liveFrom, searched-none, searched-some}
+use Rattle.paths.specs.Entries.{only-end, only-stop, only-next}
 use borrow.Author.Needs.{needs}
 use Rattle.paths.proofs.next_live.Statement.{statement}
 use Rattle.paths.proofs.next_live.Tie as tie
 
-slice-aggregate-seek : tie.Need-slice-aggregate-seek
-slice-aggregate-seek c = search needs
+abbrev Inv-loop : tie.InvT-loop
+Inv-loop img slot at₀ at = Walks img at × (only (liveFrom (slot .0)) (entriesFrom img at) ≡ only (liveFrom (slot .0)) (entriesFrom img at₀))
 
-seek-requires : tie.Need-seek-requires
-seek-requires c κs = search needs
+abbrev μ-loop : tie.MeasureT-loop
+μ-loop img slot at₀ at = at .left
 
-returns : tie.Need-returns
-unfolding nextLive passes
-returns c = c .seek .ensures .0
+returns : tie.Need-returns Inv-loop μ-loop
+unfolding nextLive liveFrom
+returns c =
+    let n = c .before .before in
+    let l = n .before in
+    searched-none _ _ (first-unchosen _ _ (sym (l .loop .inv .1) ∙ only-end _ _ (stops-end _ _ _ (n .next-spot .ensures) (c .enum-told .given .1))))
+
+step : (c : tie.After-e Inv-loop μ-loop) → let l = c .before .before .before in
+    Reached (now (l .before .before .args .img)) (l .loop .at) (c .e .given .0 .0) (c .e .given .0 .1 .0)
+step c = stops-at _ _ _ (c .before .before .next-spot .ensures) _ _ (c .e .given .1)
+
+head-at-requires : tie.Need-head-at-requires Inv-loop μ-loop
+head-at-requires c κs = let e = step (c .before .before .before) .spot in omega (arith, e .fits, e .low)
+
+returns-2 : tie.Need-returns-2 Inv-loop μ-loop
+unfolding nextLive liveFrom
+returns-2 c =
+    let k = c .before in
+    let h = k .before .before .before in
+    let r = step h in
+    let v = c .head-at .ensures in
+    let same = r .view ∙ sym (v .0) in
+    let met = only-stop _ _ _ _ (r .entries) (sym (k .before .is-from .ensures _) ∙ k .if1 .taken) in
+    searched-some _ _ _ (first-chosen _ _ _ _ (sym (h .before .before .before .loop .inv .1) ∙ met) ∙ ap some same) (head-spot _ _ _ same (v .1 .0) (r .spot))
+
+loop-again : tie.Need-loop-again Inv-loop μ-loop
+loop-again c =
+    let h = c .before .before .before in
+    let r = step h in
+    (r .walks, only-next _ _ _ _ (r .entries) (sym (c .before .is-from .ensures _) ∙ c .if1 .left) ∙ h .before .before .before .loop .inv .1)
 
 pub next-live-spec : {M : Type 1} → statement M
-next-live-spec = tie.close (tie.spec slice-aggregate-seek seek-requires returns)
+next-live-spec =
+    tie.close
+    (tie.spec
+    Inv-loop
+    μ-loop
+    (λ c. (c .before .pre, refl))
+    (λ c κs. c .loop .inv .0)
+    (λ c. search needs)
+    returns
+    (λ c. search needs)
+    (λ c κs. search needs)
+    head-at-requires
+    returns-2
+    (λ c. step (c .before .before .before) .less)
+    loop-again)
