@@ -8,20 +8,33 @@ use paths::Search;
 use retyping::Retyping;
 use slots::Head;
 ghost use mathlib.Core.Path.{_≡_};
+ghost use mathlib.Core.Bool.{true};
+ghost use mathlib.Core.Option.{some};
 ghost use Rattle.rules.specs.Fields.{signedOf};
 ghost use Rattle.rules.specs.SuperBlock.{Geometry as Sizes};
 ghost use Rattle.rules.specs.Index.{slotAt};
-ghost use Rattle.rules.specs.Paths.{isDeleted};
+ghost use Rattle.rules.specs.Paths.{isDeleted, lookup, pathsSound, anyBelow};
 ghost use Rattle.rules.specs.Writing.{deleteOf, cleared};
 ghost use Rattle.contracts.specs.Contracts.{Deletes, Reclaims};
 ghost use Rattle.geometry.specs.View.{geometryView};
 ghost use Rattle.index.specs.Steps.{Walks, entriesFrom};
-ghost use Rattle.slots.specs.View.{HeadIn};
+ghost use Rattle.slots.specs.View.{headView, HeadIn};
 ghost use Rattle.judging.specs.View.{Opened};
 ghost use Rattle.retyping.specs.Planned.{RetypePlanned};
 ghost use Rattle.erasing.specs.Reclaim.{headCleared, reclaimed};
 
 // ---- delete
+
+// Whether a live entry lies below the path whose live entry was found. Nothing lies below a file.
+fn any_below(img: &[u8], from: Cursor, path: &[u8], h: Head) -> bool
+    requires { ⌜ Walks (now img) from × (pathsSound (entriesFrom (now img) from) ≡ true) × (lookup (now path) (entriesFrom (now img) from) ≡ some (headView (now img) h)) ⌝ }
+    ensures { λ r. ⌜ r ≡ anyBelow (now (path .entry)) (entriesFrom (now (img .entry)) from) ⌝ }
+{
+    if h.kind != slots::DIRECTORY {
+        return false;
+    }
+    paths::any_below(img, from, path)
+}
 
 fn plan_entry(img: &[u8], g: Geometry, path: &[u8]) -> Retyping
     requires { ⌜ Opened (now img) g ⌝ }
@@ -37,7 +50,7 @@ fn plan_entry(img: &[u8], g: Geometry, path: &[u8]) -> Retyping
     match paths::lookup(img, from, path) {
         Search::Nothing => Retyping::Refused(11),
         Search::Entry(h) => {
-            if paths::any_below(img, from, path) {
+            if any_below(img, from, path, h) {
                 return Retyping::Refused(14);
             }
             retyping::at_slot(img, g, h.slot, slots::deleted_kind(h.kind))

@@ -1,10 +1,12 @@
 -- The code's judgement in the rules' words, and what callers know of an image that opens.
 use Prim.Native.Nat.{ℕ, _≤_}
 use mathlib.Core.Path.{_≡_, sym, ap, _∙_}
+use mathlib.Core.Bool.{true}
 use mathlib.Core.List.{List}
 use lib.ListN.{length}
 use Rattle.rules.specs.SuperBlock.{Geometry}
 use Rattle.rules.specs.Index.{itemsOf, entriesOf}
+use Rattle.rules.specs.Paths.{pathsSound}
 use Rattle.rules.specs.Refusals.{Verdict, refused, accepted, Volume, entries, judge}
 use Rattle.rules.specs.Refusals.Laws.{judge-opens}
 use Rattle.geometry.specs.View.{geometryView}
@@ -42,6 +44,9 @@ module _ (s : List ℕ) (g : Held) (opened : Opened s g) where
 
   pub opened-entries : (c : Cursor) → itemsFrom s c ≡ itemsOf s (geometryView g) → entriesFrom s c ≡ entries (volumeOf s (geometryView g))
   opened-entries c i = ap entriesOf i
+
+  pub opened-paths : (c : Cursor) → itemsFrom s c ≡ itemsOf s (geometryView g) → pathsSound (entriesFrom s c) ≡ true
+  opened-paths c i = ap pathsSound (opened-entries c i) ∙ judge-opens s (volumeOf s (geometryView g)) opened .paths-sound
 
 -- ---- what a judgement says
 module _ (s : List ℕ) (r : Judged) (told : judgedView s r ≡ judge s) where

@@ -13,7 +13,7 @@ use Rattle.geometry.specs.View.{geometryView}
 use Rattle.slots.specs.View.{headView}
 use Rattle.index.specs.Steps.{Walks, entriesFrom}
 use Rattle.paths.specs.View.{searched-nothing, searched-entry}
-use Rattle.judging.specs.View.{volumeOf, opened-super, opened-walks, opened-entries}
+use Rattle.judging.specs.View.{volumeOf, opened-super, opened-walks, opened-entries, opened-paths}
 use Rattle.retyping.specs.Planned.{RetypePlanned, as-kind, found-room}
 use borrow.Author.Needs.{needs}
 use Rattle.erasing.proofs.plan_entry.Statement.{statement}
@@ -48,9 +48,14 @@ entries-are c = opened-entries _ _ (begun c .pre) (c .first-slot .result) (c .fi
 walks : (c : tie.After-first-slot) → Walks (now (begun c .args .img)) (c .first-slot .result)
 walks c = opened-walks _ _ (begun c .pre) _ (c .first-slot .ensures .0) (c .first-slot .ensures .1)
 
+found-from : (c : tie.After-known-told) → let f = sought c in
+    let s = now (begun f .args .img) in
+    lookup (now (begun f .args .path)) (entriesFrom s (f .first-slot .result)) ≡ some (headView s (c .before .h .given .0 .0))
+found-from c = searched-entry _ _ _ (c .before .before .before .lookup .ensures) _ (c .before .h .given .1) .0
+
 found : (c : tie.After-known-told) → let x = begun (sought c) in
     lookup (now (x .args .path)) (entries (volume x)) ≡ some (headView (now (x .args .img)) (c .before .h .given .0 .0))
-found c = ap (lookup _) (sym (entries-are (sought c))) ∙ searched-entry _ _ _ (c .before .before .before .lookup .ensures) _ (c .before .h .given .1) .0
+found c = ap (lookup _) (sym (entries-are (sought c))) ∙ found-from c
 
 below : (c : tie.After-any-below) → let x = begun (sought (c .before)) in anyBelow (now (x .args .path)) (entries (volume x)) ≡ c .any-below .result
 below c = ap (anyBelow _) (sym (entries-are (sought (c .before)))) ∙ sym (c .any-below .ensures)
@@ -83,7 +88,8 @@ enum-known-h : tie.Need-enum-known-h
 enum-known-h c = search needs
 
 any-below-requires : tie.Need-any-below-requires
-any-below-requires c κs = walks (sought c)
+any-below-requires c κs = let f = sought c in
+    (walks f, opened-paths _ _ (begun f .pre) (f .first-slot .result) (f .first-slot .ensures .0), found-from c)
 
 returns-3 : tie.Need-returns-3
 unfolding RetypePlanned

@@ -5,7 +5,7 @@ use mathlib.Core.Bool.{Bool, true, false, _&&_, _||_, not}
 use mathlib.Core.List.{List, [], _∷_, _++_, map}
 use mathlib.Core.Option.{none, some}
 use lib.Dec.{eqb}
-use borrow.Author.Tests.{not-true}
+use borrow.Author.Tests.{not-true, eqb-true}
 use Rattle.rules.specs.Lists.{any, everyTwo, only, eqList, All, Pairs, Perm}
 use Rattle.rules.specs.Lists.Laws.{and-true, and-both, and-left, or-right, only-yes, eqList-refl, eqList-true}
 use Rattle.rules.specs.Names.{leading, isBelow}
@@ -145,6 +145,10 @@ directory-live d e h =
     let q = and-true (eqb (e .kind) typeDirectory) (eqList (e .path) d) h in
     (or-left (eqb (e .kind) typeDirectory) (eqb (e .kind) typeFile) (q .0), eqList-true (e .path) d (q .1))
 
+directory-kind : (d : List ℕ) (e : Entry) → isDirectoryAt d e ≡ true → e .kind ≡ typeDirectory
+unfolding isDirectoryAt
+directory-kind d e h = eqb-true (e .kind) typeDirectory (and-true (eqb (e .kind) typeDirectory) (eqList (e .path) d) h .0)
+
 -- a live directory's own directories are live
 pub directory-above : (es : List Entry) (d : List ℕ) → PathsGood es → directoryLive es d ≡ true → DirectoriesLive es d
 unfolding directoryLive
@@ -178,6 +182,29 @@ paths-create es e l n h =
       differ = (all-weaken _ _ (λ f q a b c. not-both (liveAt (e .path) f) (liveAt-holds (e .path) f b (sym c)) q) es (none-says (liveAt (e .path)) es l), g .differ);
       directories = (λ a. more-directories e es (e .path) (nearest-all es (e .path) g n), all-weaken _ _ (λ f q a. more-directories e es (f .path) (q a)) es (g .directories));
     })
+
+-- ---- below a file
+-- a live directory is the live entry of its path
+directory-found : (es : List Entry) (p : List ℕ) (e : Entry) → pathsSound es ≡ true → lookup p es ≡ some e → directoryLive es p ≡ true → e .kind ≡ typeDirectory
+unfolding directoryLive
+directory-found es p e h l t =
+    let d = any-found (isDirectoryAt p) es t in
+    let q = directory-live p (d .it) (d .passes) in
+    let w = subst (λ (x : List ℕ). lookup x es ≡ some (d .it)) (q .1) (lookup-live es (d .before) (d .it) (d .after) h (d .whole) (q .0)) in
+    let s : e ≡ d .it = cc in
+    ap (λ (x : Entry). x .kind) s ∙ directory-kind p (d .it) (d .passes)
+
+-- what has a live entry below it is a live directory, so nothing lies below a file
+pub file-alone : (es : List Entry) (p : List ℕ) (e : Entry) → pathsSound es ≡ true → lookup p es ≡ some e → (e .kind ≡ typeDirectory → ⊥) → anyBelow p es ≡ false
+unfolding anyBelow
+file-alone es p e h l n =
+    is-false (anyBelow p es) (λ t.
+    let f = any-found _ es t in
+    let b = and-true (isLive (f .it)) (isBelow p (f .it .path)) (f .passes) in
+    let d = any-found (eqList p) (leading (f .it .path)) (sym (below-leading p (f .it .path)) ∙ b .1) in
+    n (directory-found es p e h l
+    (ap (directoryLive es) (eqList-true p (d .it) (d .passes))
+    ∙ all-found _ (eqList p) (leading (f .it .path)) (all-found _ _ es (paths-says es h .directories) f (b .0)) d)))
 
 -- ---- without some entries that are not live
 pub paths-only : (q : Entry → Bool) → ((e : Entry) → isLive e ≡ true → q e ≡ true) → (es : List Entry) → pathsSound es ≡ true → pathsSound (only q es) ≡ true
