@@ -40,6 +40,14 @@ spot-entry : (s : List ℕ) (g : Geometry) (e : Spot) (what : Sought) (p : List 
 unfolding entryLooked spotLooked nameIn spotView
 spot-entry s g e what p q = ap (λ (at : ℕ). pick (compares what (spotView s e)) (looked (nameField (drop at s)) p) 0) (sym q)
 
+-- as many at most as the slots passed allow: no image has more than 262,144
+abbrev pub FewLooked : Cursor → ℕ → Type 0
+FewLooked d n = n + 16_385 * d .left ≤ 16_385 * 262_144
+
+-- what is told apart at once: it does not pass, and n bytes of its name are looked at
+abbrev pub PassedOver : List ℕ → Spot → Sought → List ℕ → ℕ → Type 0
+PassedOver s e what p n = (passes what p (spotView s e) ≡ false) × (n ≡ spotLooked s e what p)
+
 -- ---- a search from c that has come to d and looked at n bytes
 module _ (s : List ℕ) (what : Sought) (p : List ℕ) (c : Cursor) where
   abbrev lookedFrom : Geometry → Cursor → ℕ
@@ -54,7 +62,7 @@ module _ (s : List ℕ) (what : Sought) (p : List ℕ) (c : Cursor) where
     pub chosen : only (passes what p) (entriesFrom s d) ≡ only (passes what p) (entriesFrom s c)
     pub place : d .at .0 + 64 * c .slot .0 ≡ c .at .0 + 64 * d .slot .0  -- as far apart in bytes as in slots
     pub count : (g : Geometry) → c .at .0 ≡ slotAt s g (c .slot .0) → n + lookedFrom g d ≡ lookedFrom g c
-    pub few : n + 16_385 * d .left ≤ 16_385 * 262_144  -- no image has more slots
+    pub few : FewLooked d n
 
   pub going-first : Walks s c → Going c 0
   going-first w = record {
@@ -101,3 +109,26 @@ module _ (s : List ℕ) (what : Sought) (p : List ℕ) (c : Cursor) where
             omega (arith, next, here g q, going .count g q);
         few = omega (arith, going .few, step .less, tried, spot-few s e what p of (step .spot));
       }
+
+-- ---- a search that had come to d with n bytes has come to d′ with n′ then, wherever it began
+pub record Over (s : List ℕ) (what : Sought) (p : List ℕ) (d : Cursor) (n : ℕ) (d′ : Cursor) (n′ : ℕ) : Type 0 where
+  pub walks : Walks s d′
+  pub few : FewLooked d′ n′
+  pub onward : d′ .left ≤ d .left
+  pub going : (c : Cursor) → Going s what p c d n → Going s what p c d′ n′
+
+module _ (s : List ℕ) (what : Sought) (p : List ℕ) (d : Cursor) (n : ℕ) where
+  pub over-none : Walks s d → FewLooked d n → Over s what p d n d n
+  over-none w f = record { walks = w; few = f; onward = omega arith; going = λ c g. g }
+
+  module _ (of : OfRuns what) (d′ : Cursor) (n′ : ℕ) (over : Over s what p d n d′ n′) (e : Spot) (d″ : Cursor) (step : Reached s d′ e d″) (m : ℕ) (told : PassedOver s e what p m) where
+    pub over-room : n′ + m < 2 ^ 64
+    over-room = omega (arith, over .few, told .1, spot-few s e what p of (step .spot))
+
+    pub over-next : Over s what p d n d″ (n′ + m)
+    over-next = record {
+      walks = step .walks;
+      few = omega (arith, over .few, step .less, told .1, spot-few s e what p of (step .spot));
+      onward = omega (arith, over .onward, step .less);
+      going = λ c g. going-next s what p c d′ n′ (over .going c g) of e d″ step m (told .1) (told .0);
+    }

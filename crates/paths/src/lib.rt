@@ -2,6 +2,7 @@
 
 use comparing::Compared;
 use comparing::apart;
+use comparing::by_last;
 use comparing::compare;
 use index::Cursor;
 use index::Stop;
@@ -10,7 +11,7 @@ use slots::Head;
 use slots::Spot;
 use units::Slot;
 ghost use mathlib.Core.Path.{_≡_};
-ghost use mathlib.Core.Bool.{true};
+ghost use mathlib.Core.Bool.{true, false};
 ghost use mathlib.Core.List.{List};
 ghost use Prim.Native.Nat.{ℕ};
 ghost use Rattle.rules.specs.Lists.{any, first};
@@ -20,6 +21,7 @@ ghost use Rattle.rules.specs.Comparing.{looked};
 ghost use Rattle.comparing.specs.Walk.{isThen};
 ghost use Rattle.slots.specs.View.{spotView, SpotIn};
 ghost use Rattle.index.specs.Steps.{Walks, entriesFrom};
+ghost use Rattle.paths.specs.Searching.{PassedOver, FewLooked, Over};
 ghost use Rattle.paths.specs.View.{Hits, Searched, isFound, passes, soughtKind, compares, OfRuns, liveFrom, nameOf, spotLooked, LookedFrom};
 
 pub enum Search {
@@ -98,7 +100,46 @@ fn passes(img: &[u8], e: Spot, what: Sought, path: &[u8]) -> Compared
     compare_name(img, e, path, what.end)
 }
 
+// Whether it may pass, by its type and by the byte at the path's last place: a no is one, with its count.
+fn may_pass(img: &[u8], e: Spot, what: Sought, path: &[u8]) -> Compared
+    requires { ⌜ SpotIn (now img) e × OfRuns what ⌝ }
+    ensures { λ r. ⌜ (r .same ≡ false → PassedOver (now (img .entry)) e what (now (path .entry)) (r .looked)) ⌝ }
+{
+    if !is_sought(what, e.kind) {
+        return apart(0);
+    }
+    by_last(slots::name_field(img, e.at), path)
+}
+
 // ---- searches
+
+// Where a search stands, and how many bytes of the names before it were looked at.
+struct Along {
+    at: Cursor,
+    looked: usize,
+}
+
+// A search taken past the entries that are told apart at once, as most are. The loop is short, and has no name to walk and no numbers to read.
+fn pass_over(img: &[u8], from: Cursor, what: Sought, path: &[u8], looked: usize) -> Along
+    requires { ⌜ Walks (now img) from × OfRuns what × FewLooked from looked ⌝ }
+    ensures { λ r. ⌜ Over (now (img .entry)) what (now (path .entry)) from looked (r .at) (r .looked) ⌝ }
+{
+    let mut at = from;
+    let mut n = looked;
+    loop {
+        match next_spot(img, at) {
+            Stop::End => return Along { at, looked: n },
+            Stop::At(e, rest) => {
+                let tried = may_pass(img, e, what, path);
+                if tried.same {
+                    return Along { at, looked: n };
+                }
+                n += tried.looked;
+                at = rest;
+            }
+        }
+    }
+}
 
 // What a search comes to, and how many bytes of the names on its way it looked at.
 struct Met {
@@ -120,14 +161,16 @@ fn next_hit(img: &[u8], from: Cursor, what: Sought, path: &[u8]) -> Met
     let mut at = from;
     let mut looked: usize = 0;
     loop {
-        match next_spot(img, at) {
+        let along = pass_over(img, at, what, path, looked);
+        let here = along.at;
+        match next_spot(img, here) {
             Stop::End => return Met {
                 hit: Hit::Nothing,
-                looked,
+                looked: along.looked,
             },
             Stop::At(e, rest) => {
                 let tried = passes(img, e, what, path);
-                looked += tried.looked;
+                looked = along.looked + tried.looked;
                 if tried.same {
                     let h = slots::head_at(img, e.at, e.slot);
                     return Met {

@@ -176,13 +176,13 @@ pub fn slots_at(img: &[u8], at: Offset) -> u64
 
 // The slots of the entry at `at`: an unusable one has its first slot alone.
 pub fn entry_slots(img: &[u8], at: Offset) -> u64
-    requires { ⌜ at .0 + 64 ≤ length (now img) ⌝ }
+    requires { ⌜ (at .0 + 64 ≤ length (now img)) × (entryType (getD (now img) (at .0) 0) ≡ true) ⌝ }
     ensures { λ r. ⌜ ((k : ℕ) → r ≡ headOf k (drop (at .0) (now (img .entry))) .slots) × (r ≤ 256) ⌝ }
 {
-    if is_run(kind_at(img, at)) {
-        return slots_at(img, at);
+    if kind_at(img, at) == UNUSABLE {
+        return 1;
     }
-    1
+    slots_at(img, at)
 }
 
 // ---- a name in its run

@@ -31,6 +31,9 @@ is-entry-requires c κs = search needs
 type-is : (c : tie.After-is-entry Inv-loop μ-loop) → entryType (getD (now (c .before .before .before .before .before .before .before .args .img)) (c .before .before .before .before .loop .c .at .0) 0) ≡ c .is-entry .result
 type-is c = sym (ap entryType (c .before .kind-at .ensures)) ∙ sym (c .is-entry .ensures)
 
+entry-slots-requires : tie.Need-entry-slots-requires Inv-loop μ-loop
+entry-slots-requires c κs = (omega (arith, c .before .before .before .before .before .loop .inv .0 .inside .fits, c .before .before .before .if1 .taken), type-is (c .before) ∙ c .if2 .taken)
+
 past-requires : tie.Need-past-requires Inv-loop μ-loop
 past-requires c κs =
     let w = c .before .before .before .before .before .before .loop .inv .0 in
@@ -98,7 +101,7 @@ lowest-unused-spec =
     loop-holds
     kind-at-requires
     is-entry-requires
-    (λ c κs. search (needs, c .before .before .before .before .before .loop .inv .0 .inside .fits))
+    entry-slots-requires
     past-requires
     loop-less
     loop-again

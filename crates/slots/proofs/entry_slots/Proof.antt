@@ -1,4 +1,4 @@
-use mathlib.Core.Path.{refl, sym, _∙_}
+use mathlib.Core.Path.{refl}
 use native.Mathlib.Omega.{arith}
 use denote.Ref.{now}
 use Rattle.slots.specs.View.{slots-of-run, slot-of-unusable}
@@ -8,13 +8,14 @@ use Rattle.slots.proofs.entry_slots.Tie as tie
 
 returns : tie.Need-returns
 returns c =
-    let r = c .before .before in
-    (λ k. slots-of-run (now (r .before .before .before .args .img)) _ k _ _ (r .before .kind-at .ensures) (sym (r .is-run .ensures) ∙ c .before .if1 .taken) (c .slots-at .ensures .0), c .slots-at .ensures .2)
+    let r = c .before in
+    (λ k. slot-of-unusable (now (r .before .before .args .img)) _ k 1 _ (r .kind-at .ensures) (c .if1 .taken) refl, omega arith)
 
 returns-2 : tie.Need-returns-2
 returns-2 c =
-    let r = c .before in
-    (λ k. slot-of-unusable (now (r .before .before .before .args .img)) _ k 1 _ (r .before .kind-at .ensures) (sym (r .is-run .ensures) ∙ c .if1 .left) refl, omega arith)
+    let r = c .before .before in
+    let b = r .before .before in
+    (λ k. slots-of-run (now (b .args .img)) _ k _ _ (r .kind-at .ensures) (b .pre .1) (c .before .if1 .left) (c .slots-at .ensures .0), c .slots-at .ensures .2)
 
 pub entry-slots-spec : {M : Type 1} → statement M
-entry-slots-spec = tie.close (tie.spec (λ c κs. search needs) (λ c κs. search needs) (λ c κs. search needs) returns returns-2)
+entry-slots-spec = tie.close (tie.spec (λ c κs. search needs) returns (λ c κs. search needs) returns-2)
