@@ -1,13 +1,14 @@
 -- From entry to entry: what a step of the walk says.
 use Prim.Native.Nat.{ℕ, _+_, _-_, _*_, _≤_, _<_}
 use mathlib.Core.Path.{_≡_, refl, sym, ap, ap₂, _∙_}
-use mathlib.Core.Bool.{true, false}
+use mathlib.Core.Bool.{Bool, true, false}
 use mathlib.Core.List.{List, [], _∷_}
 use native.Mathlib.Omega.{arith}
 use lib.ListN.{getD, drop}
-use Rattle.rules.specs.Index.{Entry, entry, unused, itemAt, entriesOf, slotBytes}
+use Rattle.rules.specs.Index.{Entry, entry, unused, itemAt, entriesOf, slotBytes, runType, unusableAt}
+use Rattle.rules.specs.Lists.Laws.{or-false}
 use Rattle.rules.specs.Index.Walk.{walkAll, slotsOf, walk-none}
-use Rattle.rules.specs.Index.Items.{faultless, headOf, entryType, Stands, sound-entry, sound-unused, rest-sound, entries-entry, entries-unused, type-drop}
+use Rattle.rules.specs.Index.Items.{faultless, headOf, head-unusable, entryType, Stands, sound-entry, sound-unused, rest-sound, entries-entry, entries-unused, type-drop}
 use Rattle.slots.specs.declared.Head.{Head}
 use Rattle.slots.specs.declared.Spot.{Spot}
 use Rattle.slots.specs.View.{spotView, slots-is, slot-is, entry-in, spot-view, spot-in, head-spot}
@@ -40,6 +41,16 @@ pub record Reached (s : List ℕ) (c : Cursor) (p : Spot) (d : Cursor) : Type 0 
   pub number : d .slot .0 ≡ p .slot .0 + spotView s p .slots
   pub ahead : c .slot .0 ≤ p .slot .0
   pub ends : d .slot .0 + d .left ≡ c .slot .0 + c .left  -- both walks end at one slot
+
+-- a step over what stands at a spot: an entry, or an unused slot
+pub record Onward (s : List ℕ) (c : Cursor) (p : Spot) (d : Cursor) : Type 0 where
+  pub walks : Walks s d
+  pub less : d .left < c .left
+  pub place : d .at .0 + 64 * c .slot .0 ≡ c .at .0 + 64 * d .slot .0
+  pub ahead : c .slot .0 ≤ d .slot .0
+  pub ends : d .slot .0 + d .left ≡ c .slot .0 + c .left
+  pub entry : entryType (p .kind) ≡ true → Reached s c p d
+  pub unused : entryType (p .kind) ≡ false → entriesFrom s d ≡ entriesFrom s c
 
 unfoldable pub Stops : List ℕ → Cursor → Stop → Type 0
 Stops s c noMore = entriesFrom s c ≡ []
@@ -140,24 +151,54 @@ module _ (s : List ℕ) (c : Cursor) (walks : Walks s c) (more : 0 < c .left) (t
       sound = rw (past-items s c 1 d past) (rest-sound (c .left) (c .slot .0) (drop (c .at .0) s) more (walks .sound) (unused (c .slot .0)) item-is 1 (one-slot (c .slot .0)));
     }
 
+-- ---- a step over either
+module _ (s : List ℕ) (c : Cursor) (walks : Walks s c) (more : 0 < c .left) (n : ℕ) (count : n ≡ headOf (c .slot .0) (drop (c .at .0) s) .slots) where
+  by-type : {A : Type 0} → (entryType (getD s (c .at .0) 0) ≡ true → A) → (entryType (getD s (c .at .0) 0) ≡ false → A) → A
+  by-type {A} f g = by (entryType (getD s (c .at .0) 0)) refl
+    where
+      by : (t : Bool) → entryType (getD s (c .at .0) 0) ≡ t → A
+      by true e = f e
+      by false e = g e
+
+  -- an unused slot is one
+  one : entryType (getD s (c .at .0) 0) ≡ false → n ≡ 1
+  unfolding entryType unusableAt
+  one f =
+      let r : runType (getD s (c .at .0) 0) ≡ false = or-false _ _ f .0 in
+      count ∙ ap (λ (e : Entry). e .slots) (head-unusable (c .slot .0) (drop (c .at .0) s) (ap runType (type-drop s (c .at .0)) ∙ r))
+
+  pub step-left : n ≤ c .left
+  step-left = by-type (λ t. slots-left s c walks more t n count) (λ f. omega (arith, one f))
+
+  pub onward : n ≤ 256 → (d : Cursor) → Past c n d → (p : Spot) → p .at .0 ≡ c .at .0 → p .slot .0 ≡ c .slot .0 → p .kind ≡ getD s (c .at .0) 0 → Onward s c p d
+  onward few d past p place number kind =
+      let over-one : entryType (getD s (c .at .0) 0) ≡ false → Past c 1 d = λ f. rw (one f) at past in
+      record {
+        walks = by-type (λ t. behind-walks s c walks more t n count d past) (λ f. skip-walks s c walks more f d (over-one f));
+        less = by-type (λ t. behind-less s c walks more t n count d past) (λ f. omega (arith, over-one f .left));
+        place = omega (arith, past .at, past .slot);
+        ahead = omega (arith, past .slot);
+        ends = omega (arith, past .slot, past .left, step-left);
+        entry = λ t. reached s c walks more (ap entryType (sym kind) ∙ t) n count d past p place number kind few;
+        unused = λ f. skip-entries s c walks more (ap entryType (sym kind) ∙ f) d (over-one (ap entryType (sym kind) ∙ f));
+      }
+
 pub no-more : (s : List ℕ) (c : Cursor) → c .left ≡ 0 → entriesFrom s c ≡ []
 unfolding entriesOf
 no-more s c z = rw (z, walk-none (c .slot .0) (drop (c .at .0) s))
 
--- the answer from further on is the answer from the start
-pub stops-before : (s : List ℕ) (b c : Cursor) (r : Stop) → entriesFrom s c ≡ entriesFrom s b → b .slot .0 ≤ c .slot .0 → c .slot .0 + c .left ≡ b .slot .0 + b .left → c .at .0 + 64 * b .slot .0 ≡ b .at .0 + 64 * c .slot .0
-    → Stops s c r → Stops s b r
-unfolding Stops
-stops-before s b c noMore e l n p t = sym e ∙ t
-stops-before s b c (At q d) e l n p st = record {
-  entries = sym e ∙ st .entries;
-  walks = st .walks;
-  less = omega (arith, st .less);
-  spot = st .spot;
-  view = st .view;
-  place = omega (arith, st .place);
-  after = st .after;
-  number = st .number;
-  ahead = omega (arith, st .ahead);
-  ends = st .ends ∙ n;
+-- an entry that is reached from further on is reached from the start
+pub reached-before : (s : List ℕ) (b c : Cursor) (p : Spot) (d : Cursor) → entriesFrom s c ≡ entriesFrom s b → b .slot .0 ≤ c .slot .0 → c .slot .0 + c .left ≡ b .slot .0 + b .left
+    → c .at .0 + 64 * b .slot .0 ≡ b .at .0 + 64 * c .slot .0 → Reached s c p d → Reached s b p d
+reached-before s b c p d e l n q r = record {
+  entries = sym e ∙ r .entries;
+  walks = r .walks;
+  less = omega (arith, r .less);
+  spot = r .spot;
+  view = r .view;
+  place = omega (arith, r .place);
+  after = r .after;
+  number = r .number;
+  ahead = omega (arith, r .ahead);
+  ends = r .ends ∙ n;
 }

@@ -11,7 +11,7 @@ ghost use lib.ListN.{length, getD, drop};
 ghost use Rattle.rules.specs.Index.Items.{faultless, entryType};
 ghost use Rattle.rules.specs.Writing.{lowestUnused};
 ghost use Rattle.index.specs.View.{runStep, stepAt, Inside, Past, itemsFrom};
-ghost use Rattle.index.specs.Steps.{Walks, Stops, Told};
+ghost use Rattle.index.specs.Steps.{Walks, Onward, Stops, Told};
 ghost use Rattle.index.specs.Unused.{unusedView};
 
 // Where a walk stands: the place of the next slot, its number, and how many slots are left.
@@ -19,6 +19,12 @@ pub struct Cursor {
     pub at: Offset,
     pub slot: Slot,
     pub left: u64,
+}
+
+// A slot that a walk stands at, an entry's first or an unused one, and the cursor behind it.
+pub struct Ahead {
+    pub here: Spot,
+    pub rest: Cursor,
 }
 
 // What a walk meets next: an entry, by where it stands, and the cursor behind it.
@@ -98,17 +104,17 @@ pub fn walk_sound(img: &[u8], from: Cursor) -> bool
 
 // ---- from entry to entry
 
-// Where the entry at the cursor stands, and the cursor behind it.
-fn spot(img: &[u8], c: Cursor) -> Stop
-    requires { ⌜ Walks (now img) c × (0 < c .left) × (entryType (getD (now img) (c .at .0) 0) ≡ true) ⌝ }
-    ensures { λ r. ⌜ Stops (now (img .entry)) c r ⌝ }
+// What stands at the cursor, and the cursor behind it.
+pub fn further(img: &[u8], c: Cursor) -> Ahead
+    requires { ⌜ Walks (now img) c × (0 < c .left) ⌝ }
+    ensures { λ r. ⌜ Onward (now (img .entry)) c (r .here) (r .rest) ⌝ }
 {
     let at = c.at;
     let slot = c.slot;
     let kind = slots::kind_at(img, at);
-    let rest = past(c, slots::entry_slots(img, at));
+    let rest = past(c, slots::slots_from(img, at, kind));
     let here = Spot { at, kind, slot };
-    Stop::At(here, rest)
+    Ahead { here, rest }
 }
 
 // The next entry from the cursor on, by where it stands: unused slots are passed over.
@@ -118,10 +124,13 @@ pub fn next_spot(img: &[u8], from: Cursor) -> Stop
 {
     let mut c = from;
     while 0 < c.left {
-        if slots::is_entry(slots::kind_at(img, c.at)) {
-            return spot(img, c);
+        let next = further(img, c);
+        let here = next.here;
+        let rest = next.rest;
+        if slots::is_entry(here.kind) {
+            return Stop::At(here, rest);
         }
-        c = past(c, 1);
+        c = rest;
     }
     Stop::End
 }
@@ -155,8 +164,9 @@ pub fn lowest_unused(img: &[u8], from: Cursor, n: u64) -> Unused
     let mut c = from;
     let mut first = from.slot;
     while 0 < c.left {
-        if slots::is_entry(slots::kind_at(img, c.at)) {
-            c = past(c, slots::entry_slots(img, c.at));
+        let kind = slots::kind_at(img, c.at);
+        if slots::is_entry(kind) {
+            c = past(c, slots::slots_from(img, c.at, kind));
             first = c.slot;
         } else {
             c = past(c, 1);

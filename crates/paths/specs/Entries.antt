@@ -7,9 +7,10 @@ use mathlib.Core.Logic.{_⊎_, inl, inr}
 use lib.Dec.{eqb}
 use borrow.Author.Tests.{eqb-true}
 use Rattle.rules.specs.Lists.{pick, any, only, eqList}
-use Rattle.rules.specs.Lists.Laws.{and-true, or-other, only-nil, only-yes, only-no}
+use Rattle.rules.specs.Lists.Laws.{clash, and-true, or-other, only-nil, only-yes, only-no}
 use Rattle.rules.specs.Fields.{hasZero}
 use Rattle.rules.specs.Index.{Entry, runType, directoryType, fileType, typeDirectory, typeFile, typeDeletedDirectory, typeDeletedFile, nameGood}
+use Rattle.rules.specs.Index.Items.{entryType}
 use Rattle.rules.specs.Paths.{isDirectoryAt, directoryLive}
 use Rattle.rules.specs.Names.{slash, isBelow}
 use Rattle.rules.specs.Comparing.{looked}
@@ -58,6 +59,17 @@ sought-run what t of e = by (eqb t (what .one)) refl
     by : (b : Bool) → eqb t (what .one) ≡ b → runType t ≡ true
     by true a = ap runType (eqb-true t (what .one) a) ∙ of .one
     by false a = ap runType (eqb-true t (what .other) (or-other _ _ e a)) ∙ of .other
+
+pub sought-entry : (what : Sought) (t : ℕ) → OfRuns what → soughtKind what t ≡ true → entryType t ≡ true
+unfolding entryType
+sought-entry what t of e = rw (sought-run what t of e)
+
+pub unsought : (what : Sought) (t : ℕ) → OfRuns what → entryType t ≡ false → soughtKind what t ≡ false
+unsought what t of f = by (soughtKind what t) refl
+  where
+    by : (b : Bool) → soughtKind what t ≡ b → b ≡ false
+    by true e = clash (sym (sought-entry what t of e) ∙ f)
+    by false e = refl
 
 module _ (s p : List ℕ) (e : Spot) (what : Sought) where
   -- what a trial answers

@@ -10,19 +10,19 @@ use Rattle.rules.specs.Lists.{pick, only}
 use Rattle.rules.specs.Lists.Laws.{pick-true, pick-false}
 use Rattle.rules.specs.SuperBlock.{Geometry}
 use Rattle.rules.specs.Index.{nameField, slotAt}
-use Rattle.rules.specs.Index.Items.{headOf}
+use Rattle.rules.specs.Index.Items.{headOf, entryType}
 use Rattle.rules.specs.Comparing.{looked, nameIn, entryLooked, searchLooked}
 use Rattle.rules.specs.Comparing.Laws.{looked-most, looked-end, looked-stop, looked-next}
 use Rattle.slots.specs.declared.Head.{Head}
 use Rattle.slots.specs.declared.Spot.{Spot}
 use Rattle.slots.specs.View.{headView, spotView, SpotIn, name-short, head-spot}
 use Rattle.index.specs.declared.Cursor.{Cursor}
-use Rattle.index.specs.Steps.{Walks, entriesFrom, Reached}
+use Rattle.index.specs.Steps.{Walks, entriesFrom, Reached, Onward}
 use Rattle.paths.specs.declared.Sought.{Sought}
 use Rattle.paths.specs.declared.Hit.{Hit}
 use Rattle.paths.specs.declared.Hit.the-variants.{Nothing as noHit, Entry as hitAt}
 use Rattle.paths.specs.View.{passes, compares, OfRuns, nameOf, spotLooked, LookedFrom, Hits, hits-none, hits-some}
-use Rattle.paths.specs.Entries.{only-end, only-stop, only-next, compared-run}
+use Rattle.paths.specs.Entries.{only-end, only-stop, only-next, compared-run, unsought}
 
 -- ---- one entry
 -- no name has more than 16,384 bytes, and one of them may be looked at twice
@@ -80,6 +80,17 @@ module _ (s : List ℕ) (what : Sought) (p : List ℕ) (c : Cursor) where
       λ g e. sym (add-zero n) ∙ ap (λ (k : ℕ). n + k) (sym (looked-end s g _ _ p _ z)) ∙ going .count g e,
     )
 
+    -- an unused slot
+    pub going-skip : (d′ : Cursor) → entriesFrom s d′ ≡ entriesFrom s d → Walks s d′ → d′ .left < d .left → d′ .at .0 + 64 * d .slot .0 ≡ d .at .0 + 64 * d′ .slot .0
+        → (m : ℕ) → m ≡ 0 → Going d′ (n + m)
+    going-skip d′ e w l q m z = record {
+      walks = w;
+      chosen = ap (only (passes what p)) e ∙ going .chosen;
+      place = omega (arith, going .place, q);
+      count = λ g h. rw (e, z, add-zero n) (going .count g h);
+      few = omega (arith, going .few, l, z);
+    }
+
     module _ (of : OfRuns what) (e : Spot) (d′ : Cursor) (step : Reached s d e d′) (m : ℕ) (tried : m ≡ spotLooked s e what p) where
       here : (g : Geometry) → c .at .0 ≡ slotAt s g (c .slot .0) → entryLooked s g (compares what) p (spotView s e) ≡ m
       unfolding slotAt
@@ -121,14 +132,28 @@ module _ (s : List ℕ) (what : Sought) (p : List ℕ) (d : Cursor) (n : ℕ) wh
   pub over-none : Walks s d → FewLooked d n → Over s what p d n d n
   over-none w f = record { walks = w; few = f; onward = omega arith; going = λ c g. g }
 
-  module _ (of : OfRuns what) (d′ : Cursor) (n′ : ℕ) (over : Over s what p d n d′ n′) (e : Spot) (d″ : Cursor) (step : Reached s d′ e d″) (m : ℕ) (told : PassedOver s e what p m) where
+  module _ (of : OfRuns what) (d′ : Cursor) (n′ : ℕ) (over : Over s what p d n d′ n′) (e : Spot) (d″ : Cursor) (step : Onward s d′ e d″) (m : ℕ) (told : PassedOver s e what p m) where
+    -- what is looked at of an entry, and of an unused slot
+    by-slot : {A : Type 0} → (Reached s d′ e d″ → A) → (entriesFrom s d″ ≡ entriesFrom s d′ → m ≡ 0 → A) → A
+    unfolding spotLooked compares spotView pick
+    by-slot {A} f g = by (entryType (e .kind)) refl
+      where
+        by : (t : Bool) → entryType (e .kind) ≡ t → A
+        by true u = f (step .entry u)
+        by false u = g (step .unused u) (told .1 ∙ rw (unsought what (e .kind) of u))
+
+    few-more : m ≤ 16_385
+    few-more = by-slot (λ r. omega (arith, told .1, spot-few s e what p of (r .spot))) (λ x z. omega (arith, z))
+
     pub over-room : n′ + m < 2 ^ 64
-    over-room = omega (arith, over .few, told .1, spot-few s e what p of (step .spot))
+    over-room = omega (arith, over .few, few-more)
 
     pub over-next : Over s what p d n d″ (n′ + m)
     over-next = record {
       walks = step .walks;
-      few = omega (arith, over .few, step .less, told .1, spot-few s e what p of (step .spot));
+      few = omega (arith, over .few, step .less, few-more);
       onward = omega (arith, over .onward, step .less);
-      going = λ c g. going-next s what p c d′ n′ (over .going c g) of e d″ step m (told .1) (told .0);
+      going = λ c g.
+          by-slot (λ r. going-next s what p c d′ n′ (over .going c g) of e d″ r m (told .1) (told .0))
+          (λ x z. going-skip s what p c d′ n′ (over .going c g) d″ x (step .walks) (step .less) (step .place) m z);
     }

@@ -6,6 +6,7 @@ use comparing::by_last;
 use comparing::compare;
 use index::Cursor;
 use index::Stop;
+use index::further;
 use index::next_spot;
 use slots::Head;
 use slots::Spot;
@@ -100,9 +101,9 @@ fn passes(img: &[u8], e: Spot, what: Sought, path: &[u8]) -> Compared
     compare_name(img, e, path, what.end)
 }
 
-// Whether it may pass, by its type and by the byte at the path's last place: a no is one, with its count.
+// Whether what stands there may pass, by its type and by the byte at the path's last place: a no is one, with its count.
 fn may_pass(img: &[u8], e: Spot, what: Sought, path: &[u8]) -> Compared
-    requires { ⌜ SpotIn (now img) e × OfRuns what ⌝ }
+    requires { ⌜ OfRuns what × (soughtKind what (e .kind) ≡ true → SpotIn (now img) e) ⌝ }
     ensures { λ r. ⌜ (r .same ≡ false → PassedOver (now (img .entry)) e what (now (path .entry)) (r .looked)) ⌝ }
 {
     if !is_sought(what, e.kind) {
@@ -119,26 +120,25 @@ struct Along {
     looked: usize,
 }
 
-// A search taken past the entries that are told apart at once, as most are. The loop is short, and has no name to walk and no numbers to read.
+// A search taken past the slots that are told apart at once, as most are. The loop is short: it has no name to walk and no numbers to read.
 fn pass_over(img: &[u8], from: Cursor, what: Sought, path: &[u8], looked: usize) -> Along
     requires { ⌜ Walks (now img) from × OfRuns what × FewLooked from looked ⌝ }
     ensures { λ r. ⌜ Over (now (img .entry)) what (now (path .entry)) from looked (r .at) (r .looked) ⌝ }
 {
-    let mut at = from;
+    let mut c = from;
     let mut n = looked;
-    loop {
-        match next_spot(img, at) {
-            Stop::End => return Along { at, looked: n },
-            Stop::At(e, rest) => {
-                let tried = may_pass(img, e, what, path);
-                if tried.same {
-                    return Along { at, looked: n };
-                }
-                n += tried.looked;
-                at = rest;
-            }
+    while 0 < c.left {
+        let next = further(img, c);
+        let here = next.here;
+        let rest = next.rest;
+        let tried = may_pass(img, here, what, path);
+        if tried.same {
+            return Along { at: c, looked: n };
         }
+        n += tried.looked;
+        c = rest;
     }
+    Along { at: c, looked: n }
 }
 
 // What a search comes to, and how many bytes of the names on its way it looked at.

@@ -7,8 +7,8 @@ use native.Mathlib.Omega.{arith}
 use lib.ListN.{length, getD, take, drop, length-take, length-drop}
 use lib.IntN.{pos}
 use Rattle.rules.specs.Lists.{pick}
-use Rattle.rules.specs.Lists.Laws.{clash, pick-true, pick-false, or-other, or-none}
-use borrow.Author.Tests.{eqb-true, ne-eqb}
+use Rattle.rules.specs.Lists.Laws.{clash, pick-true, pick-false, or-other}
+use borrow.Author.Tests.{eqb-true}
 use Rattle.rules.specs.Fields.{byteAt, le, signedOf, stampIn, upToZero}
 use Rattle.rules.specs.Fields.Laws.{le-drop}
 use Rattle.rules.specs.Index.{Entry, entryAt, unusableAt, runSlots, nameGood, nameField, runType, typeUnusable, nameAt, fileField, fileType, directoryType}
@@ -185,18 +185,15 @@ pub slots-read : (s : List ℕ) (at b : ℕ) → b ≡ getD s (at + 1) 0 → 1 +
 unfolding runSlots
 slots-read s at b e = ap (λ (x : ℕ). 1 + x) (e ∙ sym (byte-drop s at 1))
 
--- where a program tells a run from an unusable entry by the byte at `at`
+-- where a program tells a run from any other slot by the byte at `at`
 module _ (s : List ℕ) (at k n t : ℕ) (byte : t ≡ getD s at 0) where
-  pub slots-of-run : entryType (getD s at 0) ≡ true → (t ≡ typeUnusable → ⊥) → n ≡ runSlots (drop at s) → n ≡ headOf k (drop at s) .slots
-  unfolding entryAt entryType
-  slots-of-run o u e =
-      let r : runType (getD s at 0) ≡ true = sym (or-none _ _ (ne-eqb (getD s at 0) typeUnusable (λ z. u (byte ∙ z)))) ∙ o in
-      e ∙ ap (λ (x : Entry). x .slots) (sym (head-run k (drop at s) (ap runType (type-drop s at) ∙ r)))
+  pub slots-of-run : runType t ≡ true → n ≡ runSlots (drop at s) → n ≡ headOf k (drop at s) .slots
+  unfolding entryAt
+  slots-of-run h e = e ∙ ap (λ (x : Entry). x .slots) (sym (head-run k (drop at s) (ap runType (type-drop s at ∙ sym byte) ∙ h)))
 
-  pub slot-of-unusable : t ≡ typeUnusable → n ≡ 1 → n ≡ headOf k (drop at s) .slots
+  pub slot-of-other : runType t ≡ false → n ≡ 1 → n ≡ headOf k (drop at s) .slots
   unfolding unusableAt
-  slot-of-unusable u e =
-      e ∙ ap (λ (x : Entry). x .slots) (sym (head-unusable k (drop at s) (ap runType (type-drop s at ∙ sym byte ∙ u) ∙ unusable-no-run)))
+  slot-of-other h e = e ∙ ap (λ (x : Entry). x .slots) (sym (head-unusable k (drop at s) (ap runType (type-drop s at ∙ sym byte) ∙ h)))
 
 pub slots-low : (a : List ℕ) → 1 ≤ runSlots a
 unfolding runSlots

@@ -174,15 +174,15 @@ pub fn slots_at(img: &[u8], at: Offset) -> u64
     1 + fields::wide(img[i])
 }
 
-// The slots of the entry at `at`: an unusable one has its first slot alone.
-pub fn entry_slots(img: &[u8], at: Offset) -> u64
-    requires { ⌜ (at .0 + 64 ≤ length (now img)) × (entryType (getD (now img) (at .0) 0) ≡ true) ⌝ }
+// How many slots a walk goes on from `at`: those of a run, else one.
+pub fn slots_from(img: &[u8], at: Offset, kind: u8) -> u64
+    requires { ⌜ (at .0 + 64 ≤ length (now img)) × (kind ≡ getD (now img) (at .0) 0) ⌝ }
     ensures { λ r. ⌜ ((k : ℕ) → r ≡ headOf k (drop (at .0) (now (img .entry))) .slots) × (r ≤ 256) ⌝ }
 {
-    if kind_at(img, at) == UNUSABLE {
-        return 1;
+    if is_run(kind) {
+        return slots_at(img, at);
     }
-    slots_at(img, at)
+    1
 }
 
 // ---- a name in its run

@@ -31,25 +31,25 @@ is-entry-requires c κs = search needs
 type-is : (c : tie.After-is-entry Inv-loop μ-loop) → entryType (getD (now (c .before .before .before .before .before .before .before .args .img)) (c .before .before .before .before .loop .c .at .0) 0) ≡ c .is-entry .result
 type-is c = sym (ap entryType (c .before .kind-at .ensures)) ∙ sym (c .is-entry .ensures)
 
-entry-slots-requires : tie.Need-entry-slots-requires Inv-loop μ-loop
-entry-slots-requires c κs = (omega (arith, c .before .before .before .before .before .loop .inv .0 .inside .fits, c .before .before .before .if1 .taken), type-is (c .before) ∙ c .if2 .taken)
+slots-from-requires : tie.Need-slots-from-requires Inv-loop μ-loop
+slots-from-requires c κs = (omega (arith, c .before .before .before .before .before .loop .inv .0 .inside .fits, c .before .before .before .if1 .taken), c .before .before .kind-at .ensures)
 
 past-requires : tie.Need-past-requires Inv-loop μ-loop
 past-requires c κs =
     let w = c .before .before .before .before .before .before .loop .inv .0 in
-    (slots-left _ _ w (c .before .before .before .before .if1 .taken) (type-is (c .before .before) ∙ c .before .if2 .taken) _ (c .entry-slots .ensures .0 _), omega (arith, w .inside .fits, w .inside .short), w .inside .numbers)
+    (slots-left _ _ w (c .before .before .before .before .if1 .taken) (type-is (c .before .before) ∙ c .before .if2 .taken) _ (c .slots-from .ensures .0 _), omega (arith, w .inside .fits, w .inside .short), w .inside .numbers)
 
 loop-less : tie.Need-loop-less Inv-loop μ-loop
 loop-less c =
     let y = c .before .before .before .before in
     let l = y .before .before .before .before .loop in
-    behind-less _ (l .c) (l .inv .0) (y .before .before .if1 .taken) (type-is y ∙ c .before .before .before .if2 .taken) _ (c .before .before .entry-slots .ensures .0 _) _ (c .before .past .ensures)
+    behind-less _ (l .c) (l .inv .0) (y .before .before .if1 .taken) (type-is y ∙ c .before .before .before .if2 .taken) _ (c .before .before .slots-from .ensures .0 _) _ (c .before .past .ensures)
 
 loop-again : tie.Need-loop-again Inv-loop μ-loop
 loop-again c =
     let y = c .before .before .before .before in
     let l = y .before .before .before .before .loop in
-    let n = c .before .before .entry-slots .ensures .0 _ in
+    let n = c .before .before .slots-from .ensures .0 _ in
     let m = y .before .before .if1 .taken in
     let t = type-is y ∙ c .before .before .before .if2 .taken in
     let p = c .before .past .ensures in (
@@ -101,7 +101,7 @@ lowest-unused-spec =
     loop-holds
     kind-at-requires
     is-entry-requires
-    entry-slots-requires
+    slots-from-requires
     past-requires
     loop-less
     loop-again

@@ -21,10 +21,10 @@ sought : (c : tie.Else1) → let a = c .before .before .before .before .args in 
 sought c = sym (c .before .is-sought .ensures) ∙ not-false _ (c .if1 .left)
 
 run : (c : tie.Else1) → runType (c .before .before .before .before .args .e .kind) ≡ true
-run c = sought-run _ _ (c .before .before .before .before .pre .1) (sought c)
+run c = sought-run _ _ (c .before .before .before .before .pre .0) (sought c)
 
 name-field-requires : tie.Need-name-field-requires
-name-field-requires c κs = let b = c .before .before .before .before in field-fits (now (b .args .img)) _ _ _ (b .pre .0) (run c)
+name-field-requires c κs = let b = c .before .before .before .before in field-fits (now (b .args .img)) _ _ _ (b .pre .1 (sought c)) (run c)
 
 returns-2 : tie.Need-returns-2
 returns-2 c f =
@@ -34,7 +34,7 @@ returns-2 c f =
     let path = now (b .args .path) in
     let r = c .by-last .ensures f (b .args .what .end) in
     let same = n .name-field .ensures in
-    let t = tried _ _ _ _ _ _ (sought e) (r .0 ∙ ap (λ x. isThen (b .args .what .end) x path) same ∙ name-reaches _ _ _ (b .pre .0) (run e) _ (b .pre .1 .end)) (r .1 ∙ ap (λ x. looked x path) same) in
+    let t = tried _ _ _ _ _ _ (sought e) (r .0 ∙ ap (λ x. isThen (b .args .what .end) x path) same ∙ name-reaches _ _ _ (b .pre .1 (sought e)) (run e) _ (b .pre .0 .end)) (r .1 ∙ ap (λ x. looked x path) same) in
     (sym (t .0), t .1)
 
 pub may-pass-spec : {M : Type 1} → statement M
