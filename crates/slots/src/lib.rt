@@ -10,7 +10,6 @@ ghost use lib.ListN.{length, getD, drop};
 ghost use Rattle.rules.specs.Index.{fileType, runType, liveType, deletedType, strayType, nameAt, continuing, runSlots, nameField, fileField, entryAt};
 ghost use Rattle.rules.specs.Index.Items.{entryType, headOf};
 ghost use Rattle.rules.specs.Writing.{deletedKind, liveKind};
-ghost use Rattle.slots.specs.Bits.{bitOf};
 ghost use Rattle.slots.specs.View.{headView, HeadIn};
 
 // ---- what a slot's first byte says
@@ -44,30 +43,27 @@ pub fn is_file(kind: u8) -> bool
     kind == DELETED_FILE
 }
 
-// One bit for each type below 0x20: those that start a run, and those that start an entry. Walks ask it of every slot.
-const RUNS: u64 = 0x0606_0000;
-
-const ENTRIES: u64 = 0x0706_0000;
-
-// The bit of a type.
-fn is_among(types: u64, kind: u8) -> bool
-    ensures { λ r. ⌜ r ≡ bitOf types kind ⌝ }
-{
-    kind < 32 && (types >> kind) % 2 == 1
-}
-
-// A type that starts a run.
+// A type that starts a run. Walks ask it of every slot, and most are live files.
 pub fn is_run(kind: u8) -> bool
     ensures { λ r. ⌜ r ≡ runType kind ⌝ }
 {
-    is_among(RUNS, kind)
+    if kind == FILE {
+        return true;
+    }
+    if kind == DIRECTORY {
+        return true;
+    }
+    is_deleted(kind)
 }
 
 // A type that starts an entry.
 pub fn is_entry(kind: u8) -> bool
     ensures { λ r. ⌜ r ≡ entryType kind ⌝ }
 {
-    is_among(ENTRIES, kind)
+    if is_run(kind) {
+        return true;
+    }
+    kind == UNUSABLE
 }
 
 pub fn is_live(kind: u8) -> bool
