@@ -116,3 +116,10 @@ module _ (n : ℕ) (s : List ℕ) (first : ℕ) (c : Cursor) (few : c .slot .0 -
 
 pub search-full : (n : ℕ) (s : List ℕ) (first : ℕ) (c : Cursor) → 1 ≤ n → c .slot .0 - first ≡ n → lowestFrom n s first c ≡ some first
 search-full n s first c h e = rw e (lowest-full n first (itemsFrom s c) h)
+
+-- an entry at the front does not matter
+pub lowest-behind : (s : List ℕ) (c : Cursor) → Walks s c → 0 < c .left → entryType (getD s (c .at .0) 0) ≡ true → (m : ℕ) → m ≡ headOf (c .slot .0) (drop (c .at .0) s) .slots
+    → (d : Cursor) → Past c m d → (n : ℕ) → 1 ≤ n → lowestUnused n (itemsFrom s d) ≡ lowestUnused n (itemsFrom s c)
+unfolding unusedFrom
+lowest-behind s c w more t m count d past n h =
+    sym (rw (over-entry s c w more t m count d past) (lowest-entry n 0 0 (omega arith) (headOf (c .slot .0) (drop (c .at .0) s)) (itemsFrom s d)))

@@ -6,9 +6,9 @@ use units::Offset;
 use units::Slot;
 ghost use mathlib.Core.Path.{_≡_};
 ghost use mathlib.Core.Bool.{true};
-ghost use Prim.Native.Nat.{_+_, _*_, _≤_, _<_};
+ghost use Prim.Native.Nat.{ℕ, _+_, _*_, _≤_, _<_};
 ghost use lib.ListN.{length, getD, drop};
-ghost use Rattle.rules.specs.Index.Items.{faultless, entryType};
+ghost use Rattle.rules.specs.Index.Items.{faultless, entryType, headOf};
 ghost use Rattle.rules.specs.Writing.{lowestUnused};
 ghost use Rattle.index.specs.View.{runStep, stepAt, Inside, Past, itemsFrom};
 ghost use Rattle.index.specs.Steps.{Walks, Onward, Stops, Told};
@@ -117,6 +117,19 @@ pub fn further(img: &[u8], c: Cursor) -> Ahead
     Ahead { here, rest }
 }
 
+// The same where it takes one slot: the cursor behind it does not wait for a count.
+pub fn single(img: &[u8], c: Cursor) -> Ahead
+    requires { ⌜ Walks (now img) c × (0 < c .left) × ((k : ℕ) → headOf k (drop (c .at .0) (now img)) .slots ≡ 1) ⌝ }
+    ensures { λ r. ⌜ Onward (now (img .entry)) c (r .here) (r .rest) ⌝ }
+{
+    let at = c.at;
+    let slot = c.slot;
+    let kind = slots::kind_at(img, at);
+    let rest = past(c, 1);
+    let here = Spot { at, kind, slot };
+    Ahead { here, rest }
+}
+
 // The next entry from the cursor on, by where it stands: unused slots are passed over.
 pub fn next_spot(img: &[u8], from: Cursor) -> Stop
     requires { ⌜ Walks (now img) from ⌝ }
@@ -156,6 +169,24 @@ pub enum Unused {
     At(Slot),
 }
 
+// The cursor behind the entries of one slot each that stand here. By itself the loop need not wait for a count to know where the next slot is.
+fn past_singles(img: &[u8], from: Cursor) -> Cursor
+    requires { ⌜ Walks (now img) from ⌝ }
+    ensures { λ r. ⌜ Walks (now (img .entry)) r × (r .left ≤ from .left) × ((n : ℕ) → 1 ≤ n → lowestUnused n (itemsFrom (now (img .entry)) r) ≡ lowestUnused n (itemsFrom (now (img .entry)) from)) ⌝ }
+{
+    let mut c = from;
+    while 0 < c.left {
+        if !slots::is_entry(slots::kind_at(img, c.at)) {
+            return c;
+        }
+        if !slots::is_single(img, c.at) {
+            return c;
+        }
+        c = past(c, 1);
+    }
+    c
+}
+
 // The lowest n unused slots in a row; all from `first` up to the cursor's are unused.
 pub fn lowest_unused(img: &[u8], from: Cursor, n: u64) -> Unused
     requires { ⌜ Walks (now img) from × (1 ≤ n) ⌝ }
@@ -166,7 +197,8 @@ pub fn lowest_unused(img: &[u8], from: Cursor, n: u64) -> Unused
     while 0 < c.left {
         let kind = slots::kind_at(img, c.at);
         if slots::is_entry(kind) {
-            c = past(c, slots::slots_from(img, c.at, kind));
+            let rest = past(c, slots::slots_from(img, c.at, kind));
+            c = past_singles(img, rest);
             first = c.slot;
         } else {
             c = past(c, 1);

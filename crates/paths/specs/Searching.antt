@@ -157,3 +157,12 @@ module _ (s : List ℕ) (what : Sought) (p : List ℕ) (d : Cursor) (n : ℕ) wh
           by-slot (λ r. going-next s what p c d′ n′ (over .going c g) of e d″ r m (told .1) (told .0))
           (λ x z. going-skip s what p c d′ n′ (over .going c g) d″ x (step .walks) (step .less) (step .place) m z);
     }
+
+pub over-over : (s : List ℕ) (what : Sought) (p : List ℕ) (d : Cursor) (n : ℕ) (d′ : Cursor) (n′ : ℕ) (d″ : Cursor) (n″ : ℕ) → Over s what p d n d′ n′ → Over s what p d′ n′ d″ n″
+    → Over s what p d n d″ n″
+over-over s what p d n d′ n′ d″ n″ a b = record {
+  walks = b .walks;
+  few = b .few;
+  onward = omega (arith, a .onward, b .onward);
+  going = λ c g. b .going c (a .going c g);
+}

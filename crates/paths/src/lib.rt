@@ -8,6 +8,7 @@ use index::Cursor;
 use index::Stop;
 use index::further;
 use index::next_spot;
+use index::single;
 use slots::Head;
 use slots::Spot;
 use units::Slot;
@@ -120,15 +121,20 @@ struct Along {
     looked: usize,
 }
 
-// A search taken past the slots that are told apart at once, as most are. The loop is short: it has no name to walk and no numbers to read.
-fn pass_over(img: &[u8], from: Cursor, what: Sought, path: &[u8], looked: usize) -> Along
+// A search taken past the slots that are told apart at once, as most are, up to one that does not stand by itself. The loop is short: it has no name
+// to walk and no numbers to read, and it does not wait for a count to know where the next slot is.
+fn pass_singles(img: &[u8], from: Cursor, what: Sought, path: &[u8], looked: usize) -> Along
     requires { ⌜ Walks (now img) from × OfRuns what × FewLooked from looked ⌝ }
     ensures { λ r. ⌜ Over (now (img .entry)) what (now (path .entry)) from looked (r .at) (r .looked) ⌝ }
 {
     let mut c = from;
     let mut n = looked;
     while 0 < c.left {
-        let next = further(img, c);
+        let at = c.at;
+        if !slots::is_single(img, at) {
+            return Along { at: c, looked: n };
+        }
+        let next = single(img, c);
         let here = next.here;
         let rest = next.rest;
         let tried = may_pass(img, here, what, path);
@@ -139,6 +145,31 @@ fn pass_over(img: &[u8], from: Cursor, what: Sought, path: &[u8], looked: usize)
         c = rest;
     }
     Along { at: c, looked: n }
+}
+
+// The same past every slot that is told apart at once.
+fn pass_over(img: &[u8], from: Cursor, what: Sought, path: &[u8], looked: usize) -> Along
+    requires { ⌜ Walks (now img) from × OfRuns what × FewLooked from looked ⌝ }
+    ensures { λ r. ⌜ Over (now (img .entry)) what (now (path .entry)) from looked (r .at) (r .looked) ⌝ }
+{
+    let mut c = from;
+    let mut n = looked;
+    loop {
+        let along = pass_singles(img, c, what, path, n);
+        let at = along.at;
+        if at.left == 0 {
+            return along;
+        }
+        let next = further(img, at);
+        let here = next.here;
+        let rest = next.rest;
+        let tried = may_pass(img, here, what, path);
+        if tried.same {
+            return along;
+        }
+        n = along.looked + tried.looked;
+        c = rest;
+    }
 }
 
 // What a search comes to, and how many bytes of the names on its way it looked at.

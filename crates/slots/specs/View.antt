@@ -195,6 +195,14 @@ module _ (s : List ℕ) (at k n t : ℕ) (byte : t ≡ getD s at 0) where
   unfolding unusableAt
   slot-of-other h e = e ∙ ap (λ (x : Entry). x .slots) (sym (head-unusable k (drop at s) (ap runType (type-drop s at ∙ sym byte) ∙ h)))
 
+pub one-by-count : (s : List ℕ) (at k : ℕ) → getD s (at + 1) 0 ≡ 0 → headOf k (drop at s) .slots ≡ 1
+unfolding entryAt unusableAt runSlots
+one-by-count s at k z = by (runType (byteAt (drop at s) 0)) refl
+  where
+    by : (b : Bool) → runType (byteAt (drop at s) 0) ≡ b → headOf k (drop at s) .slots ≡ 1
+    by true e = ap (λ (x : Entry). x .slots) (head-run k (drop at s) e) ∙ ap (λ (x : ℕ). 1 + x) (byte-drop s at 1 ∙ z)
+    by false e = ap (λ (x : Entry). x .slots) (head-unusable k (drop at s) e)
+
 pub slots-low : (a : List ℕ) → 1 ≤ runSlots a
 unfolding runSlots
 slots-low a = omega arith

@@ -181,6 +181,15 @@ pub fn slots_from(img: &[u8], at: Offset, kind: u8) -> u64
     1
 }
 
+// Whether a walk goes on by one slot from `at`, told without adding: what stands behind is then known before the count is read.
+pub fn is_single(img: &[u8], at: Offset) -> bool
+    requires { ⌜ at .0 + 64 ≤ length (now img) ⌝ }
+    ensures { λ r. ⌜ (r ≡ true → (k : ℕ) → headOf k (drop (at .0) (now (img .entry))) .slots ≡ 1) ⌝ }
+{
+    let i = at.after(COUNT).index();
+    img[i] == 0
+}
+
 // ---- a name in its run
 
 // Where the name starts in the first slot of an entry of this kind.

@@ -39,24 +39,34 @@ past-requires c κs =
     let w = c .before .before .before .before .before .before .loop .inv .0 in
     (slots-left _ _ w (c .before .before .before .before .if1 .taken) (type-is (c .before .before) ∙ c .before .if2 .taken) _ (c .slots-from .ensures .0 _), omega (arith, w .inside .fits, w .inside .short), w .inside .numbers)
 
+past-singles-requires : tie.Need-past-singles-requires Inv-loop μ-loop
+past-singles-requires c κs =
+    let y = c .before .before .before in
+    let l = y .before .before .before .before .loop in
+    behind-walks _ (l .c) (l .inv .0) (y .before .before .if1 .taken) (type-is y ∙ c .before .before .if2 .taken) _ (c .before .slots-from .ensures .0 _) _ (c .past .ensures)
+
 loop-less : tie.Need-loop-less Inv-loop μ-loop
 loop-less c =
-    let y = c .before .before .before .before in
+    let p = c .before .before in
+    let y = p .before .before .before in
     let l = y .before .before .before .before .loop in
-    behind-less _ (l .c) (l .inv .0) (y .before .before .if1 .taken) (type-is y ∙ c .before .before .before .if2 .taken) _ (c .before .before .slots-from .ensures .0 _) _ (c .before .past .ensures)
+    omega (arith, c .before .past-singles .ensures .1, behind-less _ (l .c) (l .inv .0) (y .before .before .if1 .taken) (type-is y ∙ p .before .before .if2 .taken) _ (p .before .slots-from .ensures .0 _) _ (p .past .ensures))
 
 loop-again : tie.Need-loop-again Inv-loop μ-loop
 loop-again c =
-    let y = c .before .before .before .before in
-    let l = y .before .before .before .before .loop in
-    let n = c .before .before .slots-from .ensures .0 _ in
+    let p = c .before .before in
+    let y = p .before .before .before in
+    let b = y .before .before .before .before in
+    let l = b .loop in
     let m = y .before .before .if1 .taken in
-    let t = type-is y ∙ c .before .before .before .if2 .taken in
-    let p = c .before .past .ensures in (
-      behind-walks _ (l .c) (l .inv .0) m t _ n _ p,
+    let t = type-is y ∙ p .before .before .if2 .taken in
+    let r = c .before .past-singles in (
+      r .ensures .0,
       omega arith,
       omega (arith, l .inv .2),
-      search-entry _ _ (l .first .0) (l .c) (l .inv .2) (l .inv .0) m t _ n _ p _ refl ∙ l .inv .3,
+      search-first _ _ _ (r .result) refl ∙ r .ensures .2 _ (b .before .before .before .pre .1)
+          ∙ sym (search-first _ _ _ (p .past .result) refl)
+          ∙ search-entry _ _ (l .first .0) (l .c) (l .inv .2) (l .inv .0) m t _ (p .before .slots-from .ensures .0 _) _ (p .past .ensures) _ refl ∙ l .inv .3,
     )
 
 past-requires-2 : tie.Need-past-requires-2 Inv-loop μ-loop
@@ -103,6 +113,7 @@ lowest-unused-spec =
     is-entry-requires
     slots-from-requires
     past-requires
+    past-singles-requires
     loop-less
     loop-again
     past-requires-2

@@ -1,6 +1,8 @@
+use native.Mathlib.Omega.{arith}
+use denote.Ref.{now}
 use Rattle.paths.specs.View.{OfRuns}
 use Rattle.paths.specs.Entries.{sought-entry}
-use Rattle.paths.specs.Searching.{Over, over-none, over-room, over-next}
+use Rattle.paths.specs.Searching.{Over, over-none, over-room, over-next, over-over}
 use borrow.Author.Needs.{needs}
 use Rattle.paths.proofs.pass_over.Statement.{statement}
 use Rattle.paths.proofs.pass_over.Tie as tie
@@ -11,11 +13,19 @@ Inv-loop img what path looked c₀ n₀ c n = Over img what path c₀ n₀ c n
 abbrev μ-loop : tie.MeasureT-loop
 μ-loop img what path looked c₀ n₀ c n = c .left
 
-loop-holds : tie.Need-loop-holds Inv-loop μ-loop
-loop-holds c = let x = c .before .before in over-none _ _ _ _ _ (x .pre .0) (x .pre .2)
+-- behind the slots that stand by themselves
+over : (c : tie.After-pass-singles Inv-loop μ-loop) → let a = c .before .before .before .before .args in
+    Over (now (a .img)) (a .what) (now (a .path)) (a .from) (a .looked) (c .pass-singles .result .at) (c .pass-singles .result .looked)
+over c = over-over _ _ _ _ _ _ _ _ _ (c .before .loop .inv) (c .pass-singles .ensures)
 
-runs : (c : tie.After-further Inv-loop μ-loop) → OfRuns (c .before .before .before .before .before .before .args .what)
-runs c = c .before .before .before .before .before .before .pre .1
+abbrev passed : tie.After-further Inv-loop μ-loop → tie.After-pass-singles Inv-loop μ-loop
+passed c = c .before .before .before .before
+
+runs : (c : tie.After-further Inv-loop μ-loop) → OfRuns (passed c .before .before .before .before .args .what)
+runs c = passed c .before .before .before .before .pre .1
+
+further-requires : tie.Need-further-requires Inv-loop μ-loop
+further-requires c κs = (c .before .before .before .pass-singles .ensures .walks, omega (arith, c .if1 .left))
 
 may-pass-requires : tie.Need-may-pass-requires Inv-loop μ-loop
 may-pass-requires c κs =
@@ -24,15 +34,15 @@ may-pass-requires c κs =
 
 add-n : tie.Need-add-n Inv-loop μ-loop
 add-n c =
-    let e = c .before in
+    let e = c .before .before in
     let f = e .before .before .before .before in
-    record { fits = over-room _ _ _ _ _ (runs f) _ _ (f .before .before .before .loop .inv) _ _ (f .further .ensures) _ (e .before .may-pass .ensures (e .if2 .left)) }
+    record { fits = over-room _ _ _ _ _ (runs f) _ _ (over (passed f)) _ _ (f .further .ensures) _ (e .before .may-pass .ensures (e .if2 .left)) }
 
 loop-again : tie.Need-loop-again Inv-loop μ-loop
 loop-again c =
-    let e = c .before in
+    let e = c .before .before in
     let f = e .before .before .before .before in
-    over-next _ _ _ _ _ (runs f) _ _ (f .before .before .before .loop .inv) _ _ (f .further .ensures) _ (e .before .may-pass .ensures (e .if2 .left))
+    over-next _ _ _ _ _ (runs f) _ _ (over (passed f)) _ _ (f .further .ensures) _ (e .before .may-pass .ensures (e .if2 .left))
 
 pub pass-over-spec : {M : Type 1} → statement M
 pass-over-spec =
@@ -40,11 +50,12 @@ pass-over-spec =
     (tie.spec
     Inv-loop
     μ-loop
-    loop-holds
-    (λ c κs. (c .before .before .loop .inv .walks, c .if1 .taken))
+    (λ c. let x = c .before .before in over-none _ _ _ _ _ (x .pre .0) (x .pre .2))
+    (λ c κs. (c .loop .inv .walks, c .before .before .before .pre .1, c .loop .inv .few))
+    (λ c. over (c .before .before .before))
+    further-requires
     may-pass-requires
-    (λ c. search needs)
+    (λ c. over (passed (c .before .before .before .before)))
     add-n
-    (λ c. c .before .before .before .before .before .further .ensures .less)
-    loop-again
-    (λ c. search needs))
+    (λ c. let f = c .before .before .before .before .before .before in omega (arith, f .further .ensures .less, passed f .pass-singles .ensures .onward))
+    loop-again)
