@@ -15,7 +15,8 @@ use Rattle.rules.specs.Regions.{runFree, lowestFree}
 use Rattle.laws.proofs.Lists.Every.{or-left, any-none, all-weaken}
 use Rattle.laws.proofs.Lists.Perms.{perm-any}
 use Rattle.ordering.specs.Regions.{regionKey, hasRegion, keyStart, keyEnd, freeFrom, Small, Keyed, Filled, all-keyed, all-filled, start-le}
-use Rattle.regions.specs.Gathering.{HasRegions, turn-here}
+use Rattle.ordering.specs.Starts.{here-and-behind}
+use Rattle.regions.specs.Gathering.{HasRegions}
 use Rattle.free_runs.specs.Runs.{meets, run-free, lowest-none, lowest-here, lowest-skip}
 
 -- ---- a key's region reaches into n blocks from b on
@@ -133,8 +134,8 @@ module _ (ks : List ℕ) (n b i : ℕ) where
   module _ (k : ℕ) (h : i < length ks) (here : k ≡ getD ks i 0) where
     pub free-here : leb (b + n) (keyStart k) ≡ true → b ≡ freeFrom n b (drop i ks)
     unfolding freeFrom
-    free-here e = rw (turn-here ks b i k h here) (sym (pick-true b (freeFrom n (max b (keyEnd k)) (drop (i + 1) ks)) e))
+    free-here e = rw (here-and-behind ks i k h here) (sym (pick-true b (freeFrom n (max b (keyEnd k)) (drop (i + 1) ks)) e))
 
     pub free-next : leb (b + n) (keyStart k) ≡ false → freeFrom n (max b (keyEnd k)) (drop (i + 1) ks) ≡ freeFrom n b (drop i ks)
     unfolding freeFrom
-    free-next e = rw (turn-here ks b i k h here) (sym (pick-false b (freeFrom n (max b (keyEnd k)) (drop (i + 1) ks)) e))
+    free-next e = rw (here-and-behind ks i k h here) (sym (pick-false b (freeFrom n (max b (keyEnd k)) (drop (i + 1) ks)) e))

@@ -12,6 +12,7 @@ use Rattle.rules.specs.Lists.{any, firstIf}
 use Rattle.rules.specs.Lists.Laws.{and-true, and-both, and-left, or-right}
 use Rattle.rules.specs.Index.{Entry}
 use Rattle.rules.specs.Regions.{holds, busy, runFree, lowestFrom, lowestFree}
+use Rattle.laws.proofs.Lists.Every.{or-left, same-test, all-of, any-none}
 
 -- ---- a region reaches into k blocks from b on: the first block at or past both starts lies before both ends
 unfoldable pub meets : ℕ → ℕ → Entry → Bool
@@ -31,18 +32,9 @@ meets-none : (b : ℕ) (e : Entry) → meets b 0 e ≡ false
 unfolding meets
 meets-none b e = and-left _ _ (le-ltb (max b (e .start)) (b + 0) (omega arith))
 
--- ---- two tests that pass together are the same
-same-test : (a b : Bool) → (a ≡ true → b ≡ true) → (b ≡ true → a ≡ true) → a ≡ b
-same-test true b f g = sym (f refl)
-same-test false true f g = g refl
-same-test false false f g = refl
-
 pub or-cases : {X : Type 0} (a b : Bool) → (a || b) ≡ true → (a ≡ true → X) → (b ≡ true → X) → X
 or-cases true b e f g = f refl
 or-cases false b e f g = g e
-
-or-left : (a b : Bool) → a ≡ true → (a || b) ≡ true
-or-left a b e = rw e
 
 -- one block more: the first is held, or the rest is reached into
 meets-suc : (b k : ℕ) (e : Entry) → meets b (suc k) e ≡ (holds b e || meets (suc b) k e)
@@ -75,11 +67,6 @@ unfolding any
 any-or p q r h [] = refl
 any-or p q r h (x ∷ xs) = rw (h x, any-or p q r h xs) (or-mix (q x) (r x) (any q xs) (any r xs))
 
-any-none : {A : Type 0} (p : A → Bool) → ((x : A) → p x ≡ false) → (xs : List A) → any p xs ≡ false
-unfolding any
-any-none p h [] = refl
-any-none p h (x ∷ xs) = rw (h x) (any-none p h xs)
-
 not-or : (a b : Bool) → (not a && not b) ≡ not (a || b)
 not-or true b = refl
 not-or false b = refl
@@ -87,7 +74,7 @@ not-or false b = refl
 -- k blocks are free when no region reaches into them
 pub run-free : (es : List Entry) (b k : ℕ) → runFree es b k ≡ not (any (meets b k) es)
 unfolding runFree busy
-run-free es b zero = ap not (sym (any-none (meets b 0) (meets-none b) es))
+run-free es b zero = ap not (sym (any-none (meets b 0) es (all-of _ (meets-none b) es)))
 run-free es b (suc k) =
     rw (run-free es (suc b) k) (not-or (any (holds b) es) (any (meets (suc b) k) es))
     ∙ ap not (sym (any-or (meets b (suc k)) (holds b) (meets (suc b) k) (meets-suc b k) es))

@@ -1,4 +1,4 @@
-// An image judged, 1 to 8 in their order: the refusal, or the geometry.
+// An image judged, 1 to 8 in their order.
 
 use geometry::Geometry;
 use regions::Regions;
@@ -16,9 +16,10 @@ ghost use Rattle.judging.specs.Keeping.{Keeps};
 // The most slots between the two ends of an index, and so the most regions or paths that it has.
 pub const MOST: usize = 4_094;
 
-// Scratch for so many slots is small enough to be cleared at no cost.
+// Scratch for so many slots costs little to clear.
 pub const FEW: usize = 512;
 
+// The refusal, or the geometry of an image that opens.
 pub enum Judged {
     Refused(u8),
     Good(Geometry),
@@ -38,7 +39,7 @@ pub fn has_few(g: Geometry) -> bool
 }
 
 // 6, 7 and 8: three passes over the whole index. The paths are judged before the regions, whose keys are to stay in `keys`. Both slices have room
-// for all slots, as it must be where they are many.
+// for all slots of the index that can hold entries.
 pub fn judge_index(img: &[u8], g: Geometry, keys: &mut [u64], tmp: &mut [u64]) -> Kept
     requires { ⌜ Passed (now img) g × (min (g .index / 64) 4_094 ≤ length (now keys)) × (length (now keys) ≤ length (now tmp)) ⌝ }
     ensures { λ r. ⌜ Keeps (now (img .entry)) (judge (now (img .entry))) (now (keys .exit)) r ⌝ }

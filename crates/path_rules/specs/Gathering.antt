@@ -1,11 +1,11 @@
 -- Live entries by their keys: gathered, put in order, and judged by their neighbours.
-use Prim.Native.Nat.{ℕ, suc, _+_, _-_, _*_, _%_, _≤_, _<_}
+use Prim.Native.Nat.{ℕ, _+_, _-_, _*_, _%_, _≤_, _<_}
 use mathlib.Core.Path.{_≡_, refl, sym, ap, ap₂, _∙_}
 use mathlib.Core.Bool.{Bool, true, false}
 use mathlib.Core.List.{List, [], _∷_, _++_, map, append-assoc, append-nil}
 use native.Mathlib.Omega.{arith}
 use lib.ListN.{length, getD, drop, drop-of-length-le}
-use lib.Seq.{drop-length, drop-cons}
+use lib.Seq.{drop-length}
 use lib.Dec.{eqb}
 use Rattle.rules.specs.Lists.{only, keepIf, All, Pairs, Perm, thus}
 use Rattle.rules.specs.Fields.{Bytes, upToZero}
@@ -16,6 +16,7 @@ use Rattle.rules.specs.Paths.Laws.{live-run}
 use Rattle.laws.proofs.Lists.Every.{all-keep}
 use Rattle.laws.proofs.Lists.Perms.{perm-all, perm-map}
 use Rattle.ordering.specs.Order.{turned, Sorted}
+use Rattle.ordering.specs.Starts.{here-and-behind}
 use Rattle.ordering.specs.Turning.{turned-perm}
 use Rattle.ordering.specs.Keys.{placeOf, keyLe}
 use Rattle.ordering.specs.Paths.{pathLe, noSlash, follows, entryFollows, chainFrom, chain}
@@ -103,7 +104,7 @@ module _ (s : List ℕ) (from : Cursor) where
     }
 
     module _ (e : Spot) (d : Cursor) (step : Reached s c e d) (few : from .left ≤ 65_536) where
-      pub key-small : e .slot .0 - from .slot .0 < 65_536
+      key-small : e .slot .0 - from .slot .0 < 65_536
       key-small = omega (arith, step .number, step .ends, at .ends, step .spot .low)
 
       pub gather-next : (keys′ : List ℕ) (j : ℕ) → length keys′ ≡ length keys
@@ -165,11 +166,6 @@ module _ (s : List ℕ) (c : Cursor) (keys : List ℕ) (i : ℕ) (g : Gathered s
         (entry-pairs after (perm-all _ p (loaded-stand s (c .at .0) pivot (drop i keys))) (sorted .ascends)))
 
 -- ---- the loop that goes from neighbour to neighbour
-pub key-here : (keys : List ℕ) (i k : ℕ) → i < length keys → k ≡ getD keys i 0 → drop i keys ≡ k ∷ drop (i + 1) keys
-key-here keys i k more here =
-    let e : suc i ≡ i + 1 = omega arith in
-    drop-cons keys i 0 more ∙ ap₂ (λ (x j : ℕ). x ∷ drop j keys) (sym here) e
-
 module _ (f : ℕ → Entry) (keys : List ℕ) (i : ℕ) where
   pub chain-end : (e : Entry) → length keys ≤ i → true ≡ chainFrom e (map f (drop i keys))
   unfolding chainFrom
@@ -182,19 +178,19 @@ module _ (f : ℕ → Entry) (keys : List ℕ) (i : ℕ) where
   module _ (k : ℕ) (more : i < length keys) (here : k ≡ getD keys i 0) where
     pub chain-stop : (e : Entry) → entryFollows e (f k) ≡ false → false ≡ chainFrom e (map f (drop i keys))
     unfolding chainFrom
-    chain-stop e h = rw (key-here keys i k more here, h)
+    chain-stop e h = rw (here-and-behind keys i k more here, h)
 
     pub chain-next : (e : Entry) → entryFollows e (f k) ≡ true → chainFrom (f k) (map f (drop (i + 1) keys)) ≡ chainFrom e (map f (drop i keys))
     unfolding chainFrom
-    chain-next e h = rw (key-here keys i k more here, h)
+    chain-next e h = rw (here-and-behind keys i k more here, h)
 
     pub chain-above : noSlash (f k .path) ≡ false → false ≡ chain (map f (drop i keys))
     unfolding chain
-    chain-above h = rw (key-here keys i k more here, h)
+    chain-above h = rw (here-and-behind keys i k more here, h)
 
     pub chain-first : noSlash (f k .path) ≡ true → chainFrom (f k) (map f (drop (i + 1) keys)) ≡ chain (map f (drop i keys))
     unfolding chain
-    chain-first h = rw (key-here keys i k more here, h)
+    chain-first h = rw (here-and-behind keys i k more here, h)
 
 -- what is read of an entry at its key's place
 module _ (s : List ℕ) (c : Cursor) (k p : ℕ) (place : p ≡ k % 65_536) where

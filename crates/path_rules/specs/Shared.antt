@@ -15,11 +15,10 @@ use Rattle.laws.proofs.Lists.Every.{all-weaken}
 use Rattle.laws.proofs.Lists.Perms.{perm-all}
 use Rattle.ordering.specs.Order.{Sorted}
 use Rattle.ordering.specs.Paths.{follows}
-use Rattle.ordering.specs.Starts.{zero-behind}
+use Rattle.ordering.specs.Starts.{here-and-behind, zero-behind}
 use Rattle.ordering.specs.Keys.{numberOf, placeOf, keyPath, keyLe}
 use Rattle.ordering.specs.Pivots.{sharedBy, shared-bytes}
 use Rattle.numbering.specs.Numbers.{Numbered, path-bytes, loaded, loaded-stand}
-use Rattle.path_rules.specs.Gathering.{key-here}
 
 -- ---- two paths that have their first d bytes in common
 abbrev pub Common : ℕ → List ℕ → List ℕ → Type 0
@@ -65,14 +64,14 @@ module _ (s : List ℕ) (at : ℕ) where
   -- ---- the keys from place i on, where k stands
   module _ (keys : List ℕ) (i k : ℕ) (more : i < length keys) (here : k ≡ getD keys i 0) where
     pub pivoted-first : Pivoted s at (drop i keys) → Pivoted s at (k ∷ drop (i + 1) keys)
-    pivoted-first p = rw (key-here keys i k more here) at p
+    pivoted-first p = rw (here-and-behind keys i k more here) at p
 
     pub pivoted-next : (a : ℕ) → Pivoted s at (a ∷ drop i keys) → Pivoted s at (k ∷ drop (i + 1) keys)
     pivoted-next a p = pivoted-first (record { pivot = p .pivot; each = p .each .1 })
 
     pub pivoted-two : (a : ℕ) → Pivoted s at (a ∷ drop i keys) → Pivoted s at (a ∷ k ∷ [])
     pivoted-two a p =
-        let q : Pivoted s at (a ∷ k ∷ drop (i + 1) keys) = rw (key-here keys i k more here) at p in
+        let q : Pivoted s at (a ∷ k ∷ drop (i + 1) keys) = rw (here-and-behind keys i k more here) at p in
         record { pivot = q .pivot; each = (q .each .0, (q .each .1 .0, tt)) }
 
   -- ---- keys without numbers share nothing, and those that are numbered what their numbers say, in any order

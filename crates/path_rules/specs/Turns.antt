@@ -1,20 +1,15 @@
 -- The directory of a path, as the code looks for it: from the last slash back.
 use Prim.Native.Nat.{ℕ, _-_, _≤_, _<_}
-use mathlib.Core.Path.{_≡_, refl, sym, ap, _∙_}
+use mathlib.Core.Path.{_≡_, sym, ap, _∙_}
 use mathlib.Core.Bool.{true}
-use mathlib.Core.List.{List, [], _∷_, _++_}
+use mathlib.Core.List.{List}
 use lib.ListN.{length, getD, take}
 use Rattle.rules.specs.Names.{slash, leading}
 use Rattle.rules.specs.Names.Laws.{leading-slash, leading-other, leading-nil}
 use Rattle.rules.specs.Index.{Entry}
 use Rattle.rules.specs.Paths.{directoryLive}
 use Rattle.rules.specs.Writing.{nearestLive}
-
-nearest-last : (es : List Entry) (ps : List (List ℕ)) (p : List ℕ) → nearestLive es (ps ++ (p ∷ [])) ≡ directoryLive es p
-unfolding nearestLive
-nearest-last es [] p = refl
-nearest-last es (q ∷ []) p = refl
-nearest-last es (q ∷ r ∷ ps) p = nearest-last es (r ∷ ps) p
+use Rattle.laws.proofs.Entries.Paths.{nearest-last}
 
 -- ---- the path up to its byte i, which is i - 1 bytes and the last one
 module _ (es : List Entry) (s : List ℕ) (i : ℕ) (more : 0 < i) (fits : i ≤ length s) where

@@ -43,7 +43,7 @@ pub planned-refused : (s : List ℕ) (new : New) (path : List ℕ) (stamp : ℤ)
 unfolding Planned
 planned-refused s new path stamp n e = create-refused s n e new path stamp
 
--- the tests 9 to 13 passed
+-- the tests 9, 10, 12 and 13 passed
 pub record Admitted (s : List ℕ) (g : Held) (path : List ℕ) : Type 0 where
   pub current : writable (geometryView g) ≡ true
   pub named : newPathGood path ≡ true

@@ -31,7 +31,7 @@ ghost use Rattle.placing.specs.Site.{newOf, siteView};
 // ---- a place for the run
 
 // Where a run goes, and the geometry after any growth of the index.
-pub enum RunPlace {
+enum RunPlace {
     Nothing,
     At(Slot, Geometry),
 }
@@ -158,7 +158,7 @@ fn plan_places(
     }
 }
 
-// 9 to 13: what may be written, and by which path.
+// 9, 10, 12 and 13: whether the volume may be written, and by this path.
 fn plan_opened(
     img: &[u8],
     g: Geometry,

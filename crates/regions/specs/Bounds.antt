@@ -14,7 +14,7 @@ use Rattle.rules.specs.SuperBlock.Laws.{GoodGeometry, block-low, areas-fit}
 use Rattle.geometry.specs.declared.Geometry.{Geometry}
 use Rattle.geometry.specs.View.{geometryView}
 
--- no product of blocks and bytes per block passes 64 bits
+-- no product of blocks and bytes per block passes 64 bits, and the ends of regions fit in their keys
 pub record Bounded (g : Geometry) : Type 0 where
   pub field : g .field ≤ 5
   pub area : g .reserved + g .«data» ≤ 65_536
@@ -31,7 +31,3 @@ unfolding withinData
 within-true g e h =
     let p = and-true (leb (g .reserved) (e .start) && ltb (e .start) (e .end)) _ h in
     (ltb-true _ _ (and-true (leb (g .reserved) (e .start)) _ (p .0) .1), leb-true _ _ (p .1))
-
--- the bytes of a region in the data area
-pub region-bytes : (blocks len : ℕ) → blocks ≤ 16_777_216 → len ≤ 4096 → blocks * len ≤ 16_777_216 * 4096
-region-bytes blocks len b l = mul-le-mul b l

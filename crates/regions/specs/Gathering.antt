@@ -1,12 +1,12 @@
 -- Regions gathered and put in order.
-use Prim.Native.Nat.{ℕ, suc, _+_, _/_, _≤_, _<_}
-use mathlib.Core.Path.{_≡_, refl, sym, ap, ap₂, _∙_}
+use Prim.Native.Nat.{ℕ, _+_, _/_, _≤_, _<_}
+use mathlib.Core.Path.{_≡_, refl, sym, ap, _∙_}
 use mathlib.Core.Bool.{Bool, true, false, _&&_}
 use mathlib.Core.List.{List, [], _∷_, _++_, map, append-assoc, append-nil}
 use native.Mathlib.Omega.{arith}
 use lib.ListN.{length, getD, drop, drop-of-length-le}
 use lib.Dec.{eqb, ltb, leb}
-use lib.Seq.{drop-length, drop-cons}
+use lib.Seq.{drop-length}
 use borrow.Author.Tests.{eqb-true, ltb-true, ltb-false}
 use Rattle.rules.specs.Lists.{pick, all, only, keepIf, everyTwo, All, Pairs, Perm, same, thus}
 use Rattle.rules.specs.Lists.Laws.{clash, and-true, pick-true, pick-false, or-other}
@@ -19,6 +19,7 @@ use Rattle.laws.proofs.Lists.Every.{all-weaken, all-and, all-says, pairs-weaken
 use Rattle.ordering.specs.Order.{turned, Sorted}
 use Rattle.ordering.specs.Keys.{numberOf, keyRest, keyLe}
 use Rattle.ordering.specs.Paths.{pathLe}
+use Rattle.ordering.specs.Starts.{here-and-behind}
 use Rattle.ordering.specs.Turning.{turned-perm}
 use Rattle.ordering.specs.Regions.{regionKey, hasRegion, keyStart, keyEnd, inTurn, Small, all-filled, in-turn-ascends, in-turn-apart, in-turn-decides}
 use Rattle.slots.specs.declared.Head.{Head}
@@ -93,11 +94,11 @@ module _ (g : Geometry) (bounded : Bounded g) where
       by t f p = rw f at p
 
   -- of every entry that a cursor has before it
-  pub good-small : (s : List ℕ) (c : Cursor) → All (λ e. regionGood (geometryView g) e ≡ true → Small e) (entriesFrom s c)
+  good-small : (s : List ℕ) (c : Cursor) → All (λ e. regionGood (geometryView g) e ≡ true → Small e) (entriesFrom s c)
   unfolding walkAll
   good-small s c = of-walk (λ e. regionGood (geometryView g) e ≡ true → Small e) good-run good-unusable _ _ _ _
 
-pub small-end : (e : Entry) → Small e → e .end ≤ 65_536
+small-end : (e : Entry) → Small e → e .end ≤ 65_536
 unfolding hasRegion
 small-end e h = by (ltb (e .start) (e .end)) refl
   where
@@ -163,18 +164,13 @@ module _ (ks : List ℕ) (b i : ℕ) where
   turn-end h = rw (drop-of-length-le ks h)
 
   module _ (k : ℕ) (h : i < length ks) (here : k ≡ getD ks i 0) where
-    pub turn-here : drop i ks ≡ k ∷ drop (i + 1) ks
-    turn-here =
-        let e : suc i ≡ i + 1 = omega arith in
-        drop-cons ks i 0 h ∙ ap₂ (λ (x j : ℕ). x ∷ drop j ks) (sym here) e
-
     pub turn-stop : leb b (keyStart k) ≡ false → false ≡ inTurn b (drop i ks)
     unfolding inTurn
-    turn-stop e = rw (turn-here, e)
+    turn-stop e = rw (here-and-behind ks i k h here, e)
 
     pub turn-next : leb b (keyStart k) ≡ true → inTurn (keyEnd k) (drop (i + 1) ks) ≡ inTurn b (drop i ks)
     unfolding inTurn
-    turn-next e = rw (turn-here, e)
+    turn-next e = rw (here-and-behind ks i k h here, e)
 
 -- ---- what putting them in order comes to: the same keys, which stand in turn or ascend, and whether they stand in turn
 pub record Ordered (before after : List ℕ) (r : Bool) : Type 0 where
@@ -211,15 +207,14 @@ pub record HasRegions (es : List Entry) (keys : List ℕ) : Type 0 where
 unfoldable pub JudgesRegions : List ℕ → Geometry → Cursor → List ℕ → Regions → Type 0
 JudgesRegions s g c keys Unsound = regionsSound (geometryView g) (entriesFrom s c) ≡ false
 JudgesRegions s g c keys (InOrder i) =
-    (regionsSound (geometryView g) (entriesFrom s c) ≡ true) × (i ≤ length keys) × HasRegions (entriesFrom s c) (drop i keys)
+    (regionsSound (geometryView g) (entriesFrom s c) ≡ true) × HasRegions (entriesFrom s c) (drop i keys)
 
 module _ (s : List ℕ) (g : Geometry) (c : Cursor) (keys : List ℕ) (r : Regions) (h : JudgesRegions s g c keys r) where
   pub regions-unsound : r ≡ Unsound → regionsSound (geometryView g) (entriesFrom s c) ≡ false
   unfolding JudgesRegions
   regions-unsound e = rw e at h
 
-  pub regions-from : (i : ℕ) → r ≡ InOrder i
-      → (regionsSound (geometryView g) (entriesFrom s c) ≡ true) × (i ≤ length keys) × HasRegions (entriesFrom s c) (drop i keys)
+  pub regions-from : (i : ℕ) → r ≡ InOrder i → (regionsSound (geometryView g) (entriesFrom s c) ≡ true) × HasRegions (entriesFrom s c) (drop i keys)
   unfolding JudgesRegions
   regions-from i e = rw e at h
 
@@ -246,13 +241,12 @@ module _ (s : List ℕ) (g : Geometry) (bounded : Bounded g) (c : Cursor) (good 
     unfolding JudgesRegions
     ordered-unsound r o f kept = sym (sound-ordered r o) ∙ f
 
-  pub ordered-from : (keys kept : List ℕ) (i : ℕ) → keys ≡ regionKeys (entriesFrom s c) → i ≤ length kept
+  pub ordered-from : (keys kept : List ℕ) (i : ℕ) → keys ≡ regionKeys (entriesFrom s c)
       → (r : Bool) → Ordered keys (drop i kept) r → r ≡ true → JudgesRegions s g c kept (InOrder i)
   unfolding JudgesRegions
-  ordered-from keys kept i is l r o f =
+  ordered-from keys kept i is r o f =
       let p = keys-same keys (drop i kept) is (o .same) in (
         sym (sound-ordered keys (drop i kept) is r o) ∙ f,
-        l,
         record {
           small = all-small;
           same = p;

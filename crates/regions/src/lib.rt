@@ -4,6 +4,7 @@ use geometry::Geometry;
 use index::Cursor;
 use index::Next;
 use slots::Head;
+use sorting::PLACES;
 use sorting::put_before;
 use units::Block;
 use units::Offset;
@@ -65,7 +66,7 @@ fn file_region_good(g: Geometry, h: Head) -> bool
 }
 
 // Whether the region of an entry is good, at any 64-bit numbers; a directory has none.
-pub fn region_good(g: Geometry, h: Head) -> bool
+fn region_good(g: Geometry, h: Head) -> bool
     requires { ⌜ Bounded g ⌝ }
     ensures { λ r. ⌜ ((s : List ℕ) → r ≡ regionGood (geometryView g) (headView s h)) ⌝ }
 {
@@ -79,7 +80,7 @@ pub fn region_good(g: Geometry, h: Head) -> bool
 }
 
 // Whether two regions share no block.
-pub fn regions_apart(a: Head, b: Head) -> bool
+fn regions_apart(a: Head, b: Head) -> bool
     ensures { λ r. ⌜ ((s : List ℕ) → r ≡ apart (headView s a) (headView s b)) ⌝ }
 {
     if a.end.is_at_or_before(b.start) {
@@ -90,18 +91,21 @@ pub fn regions_apart(a: Head, b: Head) -> bool
 
 // ---- regions in order
 
+// Above the end of a region, which is less, a key has its start.
+const ENDS: u64 = 131_072;
+
 // The regions of entries, gathered from the end of a lent slice on: where they begin, unless one is not good.
-pub enum Gathered {
+enum Gathered {
     Bad,
     From(usize),
 }
 
-// The start and the end of a region as one number.
+// The start and the end of a region as one number, with no place below it.
 fn key_of(h: Head) -> u64
     requires { ⌜ h .end .0 ≤ 65_536 × (h .start .0 < h .end .0) ⌝ }
     ensures { λ r. ⌜ ((s : List ℕ) → r ≡ regionKey (headView s h)) ⌝ }
 {
-    (h.start.number() * 131_072 + h.end.number()) * 65_536
+    (h.start.number() * ENDS + h.end.number()) * PLACES
 }
 
 // The region of an entry, if it has one, put before place i.
@@ -142,13 +146,13 @@ fn gather(img: &[u8], g: Geometry, from: Cursor, keys: &mut [u64]) -> Gathered
 pub fn key_start(key: u64) -> Block
     ensures { λ r. ⌜ r .0 ≡ keyStart key ⌝ }
 {
-    Block::at(key / 65_536 / 131_072)
+    Block::at(key / PLACES / ENDS)
 }
 
 pub fn key_end(key: u64) -> Block
     ensures { λ r. ⌜ r .0 ≡ keyEnd key ⌝ }
 {
-    Block::at(key / 65_536 % 131_072)
+    Block::at(key / PLACES % ENDS)
 }
 
 // Whether each region from place `from` on starts at or past the end of the one before it.

@@ -88,7 +88,7 @@ returns-4 c =
     let p = looked (told i) in
     let f = begun p in
     keeps-good _ _ _ (judge-index _ (start f .pre .0) ∙ index-good _ _ _ (index-is (f .before)) (sound i) (paths-are p ∙ not-false _ (c .if2 .left))) (f .first-slot .result) (f .first-slot .ensures .0)
-    _ _ (regions-from _ _ _ _ _ (told i .judge-regions .ensures) _ (i .i .given .1) .2)
+    _ _ (regions-from _ _ _ _ _ (told i .judge-regions .ensures) _ (i .i .given .1) .1)
 
 pub judge-index-spec : {M : Type 1} → statement M
 judge-index-spec =

@@ -23,14 +23,14 @@ use Rattle.laws.proofs.Entries.Leading.{Above, top, under, above, below
 abbrev pub Differ : Entry → Entry → Type 0
 Differ e f = isLive e ≡ true → isLive f ≡ true → e .path ≡ f .path → ⊥
 
-pub differ-says : (e f : Entry) → pathsDiffer e f ≡ true → Differ e f
+differ-says : (e f : Entry) → pathsDiffer e f ≡ true → Differ e f
 unfolding pathsDiffer
 differ-says e f h a b c =
     not-both _
     (and-both (isLive e && isLive f) (eqList (e .path) (f .path)) (and-both (isLive e) (isLive f) a b) (ap (λ q. eqList q (f .path)) c ∙ eqList-refl (f .path)))
     (not-true (isLive e && isLive f && eqList (e .path) (f .path)) h)
 
-pub differ-holds : (e f : Entry) → Differ e f → pathsDiffer e f ≡ true
+differ-holds : (e f : Entry) → Differ e f → pathsDiffer e f ≡ true
 unfolding pathsDiffer
 differ-holds e f h =
     ap not (is-false (isLive e && isLive f && eqList (e .path) (f .path)) (λ t.
@@ -110,7 +110,7 @@ pub liveAt-says : (p : List ℕ) (e : Entry) → liveAt p e ≡ true → (isLive
 unfolding liveAt
 liveAt-says p e h = let q = and-true (isLive e) (eqList (e .path) p) h in (q .0, eqList-true (e .path) p (q .1))
 
-pub liveAt-holds : (p : List ℕ) (e : Entry) → isLive e ≡ true → e .path ≡ p → liveAt p e ≡ true
+liveAt-holds : (p : List ℕ) (e : Entry) → isLive e ≡ true → e .path ≡ p → liveAt p e ≡ true
 unfolding liveAt
 liveAt-holds p e a b = and-both (isLive e) (eqList (e .path) p) a (ap (λ q. eqList q p) b ∙ eqList-refl p)
 
@@ -150,21 +150,22 @@ unfolding isDirectoryAt
 directory-kind d e h = eqb-true (e .kind) typeDirectory (and-true (eqb (e .kind) typeDirectory) (eqList (e .path) d) h .0)
 
 -- a live directory's own directories are live
-pub directory-above : (es : List Entry) (d : List ℕ) → PathsGood es → directoryLive es d ≡ true → DirectoriesLive es d
+directory-above : (es : List Entry) (d : List ℕ) → PathsGood es → directoryLive es d ≡ true → DirectoriesLive es d
 unfolding directoryLive
 directory-above es d g h =
     let f = any-found (isDirectoryAt d) es h in
     let q = directory-live d (f .it) (f .passes) in
     subst (DirectoriesLive es) (q .1) (all-found _ (isDirectoryAt d) es (g .directories) f (q .0))
 
-nearest-last : (es : List Entry) (ds : List (List ℕ)) (d : List ℕ) → nearestLive es (ds ++ (d ∷ [])) ≡ directoryLive es d
+-- the nearest is the last
+pub nearest-last : (es : List Entry) (ds : List (List ℕ)) (d : List ℕ) → nearestLive es (ds ++ (d ∷ [])) ≡ directoryLive es d
 unfolding nearestLive
 nearest-last es [] d = refl
 nearest-last es (p ∷ []) d = refl
 nearest-last es (p ∷ q ∷ ps) d = nearest-last es (q ∷ ps) d
 
 -- where the nearest directory is live, all are
-pub nearest-all : (es : List Entry) (p : List ℕ) → PathsGood es → nearestLive es (leading p) ≡ true → DirectoriesLive es p
+nearest-all : (es : List Entry) (p : List ℕ) → PathsGood es → nearestLive es (leading p) ≡ true → DirectoriesLive es p
 nearest-all es p g h = go (above p)
   where
     go : Above p → DirectoriesLive es p

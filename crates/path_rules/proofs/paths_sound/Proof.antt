@@ -15,7 +15,8 @@ chained-requires-2 : tie.Need-chained-requires-2
 chained-requires-2 c κs =
     let t = c .before .before .before .before .before in
     let l = t .before .before .before .before .before in
-    let b = l .before .before .before .before .before .before .before .before .before .before .before in
+    let g = l .before .before .before .before .before .before .before in
+    let b = g .before .before .before .before in
     (search needs, pivoted-sorted _ _ (λ i. b .shared-slice-known .given i .fits) _ _ _ (l .number .ensures) (t .sort-from .ensures))
 
 returns-2 : tie.Need-returns-2

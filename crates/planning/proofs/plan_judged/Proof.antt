@@ -5,7 +5,7 @@ use Rattle.planning.proofs.plan_judged.Statement.{statement}
 use Rattle.planning.proofs.plan_judged.Tie as tie
 
 plan-opened-requires : tie.Need-plan-opened-requires
-plan-opened-requires c κs = kept-good _ _ _ _ (c .before .before .before .before .before .before .before .before .judge-index .ensures) _ _ (c .before .before .opened .given .1)
+plan-opened-requires c κs = let o = c .before .before in kept-good _ _ _ _ (o .before .before .before .before .before .before .judge-index .ensures) _ _ (o .opened .given .1)
 
 returns : tie.Need-returns
 returns c = planned-refused _ _ _ _ _ (kept-refused _ _ _ _ (c .before .before .before .before .before .before .before .judge-index .ensures) _ (c .before .n .given .1))

@@ -4,12 +4,13 @@ use mathlib.Core.Bool.{true, false, _&&_}
 use mathlib.Core.List.{List, []}
 use lib.Dec.{eqb}
 use native.Mathlib.Omega.{arith}
+use native.Mathlib.Nat.{mul-le-mul}
 use borrow.Author.Tests.{not-true, not-false}
 use Rattle.rules.specs.SuperBlock.{dataEnd}
 use Rattle.rules.specs.Regions.{fileRegionGood, withinData, blocksOf}
 use Rattle.geometry.specs.View.{geometryView}
 use Rattle.slots.specs.View.{headView}
-use Rattle.regions.specs.Bounds.{within-true, region-bytes}
+use Rattle.regions.specs.Bounds.{within-true}
 use borrow.Author.Needs.{needs}
 use Rattle.regions.proofs.file_region_good.Statement.{statement}
 use Rattle.regions.proofs.file_region_good.Tie as tie
@@ -33,11 +34,11 @@ region : (c : tie.Else2) → let a = c .before .before .before .before .args in
 unfolding headView dataEnd
 region c = within-true _ _ (within c [])
 
-few : (c : tie.After-blocks-to) → c .blocks-to .result ≤ 16_777_216
+few : (c : tie.After-blocks-to) → c .blocks-to .result ≤ 65_536
 few c = omega (arith, c .before .before .before .before .before .pre .area, region (c .before), c .blocks-to .ensures)
 
 mul-result : tie.Need-mul-result
-mul-result c = record { fits = omega (arith, region-bytes (c .before .blocks-to .result) (c .block-length .result) (few (c .before)) (c .block-length .ensures .2)) }
+mul-result c = record { fits = omega (arith, mul-le-mul (few (c .before)) (c .block-length .ensures .2)) }
 
 returns-3 : tie.Need-returns-3
 unfolding fileRegionGood headView blocksOf

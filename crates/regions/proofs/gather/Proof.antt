@@ -1,4 +1,3 @@
-use Prim.Native.Nat.{_≤_}
 use mathlib.Core.Path.{_≡_, refl, sym, _∙_}
 use native.Mathlib.Omega.{arith}
 use mathlib.Core.Bool.{true}
@@ -6,11 +5,10 @@ use lib.ListN.{length}
 use borrow.Author.Tests.{not-true, not-false}
 use borrow.Author.Needs.{needs}
 use denote.Ref.{now}
-use Rattle.rules.specs.Lists.{all}
 use Rattle.rules.specs.Regions.{regionGood}
 use Rattle.geometry.specs.View.{geometryView}
 use Rattle.slots.specs.View.{headView}
-use Rattle.index.specs.Steps.{Step, entriesFrom}
+use Rattle.index.specs.Steps.{Step}
 use Rattle.index.specs.Turns.{told-end, told-found, all-stop}
 use Rattle.regions.specs.Gathering.{Gathers, Gathering, found-small, gather-none, gather-end, gather-next}
 use Rattle.regions.proofs.gather.Statement.{statement}

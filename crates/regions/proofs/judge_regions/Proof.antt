@@ -47,7 +47,7 @@ returns-3 c =
     let i = o .before .before .before .before in
     let a = first i in
     let h = gathered i in
-    ordered-from (now (a .args .img)) _ (a .pre .0) (a .args .from) (h .0) _ _ _ (h .2) (omega (arith, h .1)) _ (o .order .ensures) (not-false _ (c .if1 .left))
+    ordered-from (now (a .args .img)) _ (a .pre .0) (a .args .from) (h .0) _ _ _ (h .2) _ (o .order .ensures) (not-false _ (c .if1 .left))
 
 pub judge-regions-spec : {M : Type 1} → statement M
 judge-regions-spec =

@@ -1,4 +1,3 @@
-use native.Mathlib.Omega.{arith}
 use borrow.Author.Needs.{needs}
 use Rattle.ordering.specs.Regions.{regionKey}
 use Rattle.slots.specs.View.{headView}

@@ -1,4 +1,4 @@
-use mathlib.Core.Path.{_≡_, sym, _∙_}
+use mathlib.Core.Path.{sym, _∙_}
 use borrow.Author.Needs.{needs}
 use Rattle.regions.specs.Gathering.{in-turn, sorted-turns}
 use Rattle.regions.proofs.order.Statement.{statement}
