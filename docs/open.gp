@@ -1,4 +1,4 @@
-# Draws docs/open.svg from docs/bench.tsv: the time of an open against the entries. From the root: gnuplot docs/open.gp
+# Draws docs/open.svg from docs/bench.tsv: the time of an open against the entries, before and after. From the root: gnuplot docs/open.gp
 set terminal svg size 900,420 font "sans,12" background rgb "white"
 set output "docs/open.svg"
 set datafile separator "\t"
@@ -12,6 +12,6 @@ rows(volume, call, program) = sprintf("< awk -F'\t' '$1 == \"%s\" && $3 == \"%s\
 set multiplot layout 1,2
 do for [volume in "'in order' 'shuffled'"] {
     set title volume
-    plot rows(volume, "open", "library") with linespoints title "library", rows(volume, "open", "second") with linespoints title "second program", rows(volume, "pass", "machine") with linespoints title "one pass over the index bytes"
+    plot rows(volume, "open", "before") with linespoints title "library before", rows(volume, "open", "library") with linespoints title "library", rows(volume, "open", "second") with linespoints title "second program", rows(volume, "pass", "machine") with linespoints title "one pass over the index bytes"
 }
 unset multiplot

@@ -97,6 +97,11 @@ fn numbered(entries: usize) -> impl Iterator<Item = Vec<u8>> {
     (0..entries - 2).map(|place| format!("session-{place:05}").into_bytes())
 }
 
+/// Where a create on the volume in order puts a file's bytes.
+pub fn new_at(entries: usize) -> usize {
+    (TWO_END + entries - 2) * BLOCK
+}
+
 /// A create puts its run before the others, and its blocks behind theirs.
 fn in_order(entries: usize) -> Vec<Entry> {
     let mut entries = files(numbered(entries), 1);

@@ -2,7 +2,7 @@
 
 ghost use mathlib.Core.Path.{_≡_};
 ghost use mathlib.Core.Bool.{false};
-ghost use Prim.Native.Nat.{ℕ, _≤_};
+ghost use Prim.Native.Nat.{_≤_};
 ghost use lib.ListN.{length};
 ghost use Rattle.rules.specs.Comparing.{atLast, lastAlike, goesOn, walked, looked};
 ghost use Rattle.comparing.specs.Walk.{isThen};
@@ -68,16 +68,6 @@ fn walk(name: &[u8], path: &[u8], end: u8) -> Compared
         same: name[i] == end,
         looked: i + 1,
     }
-}
-
-// The test before the walk, of a name of any length. Its no is the comparison's.
-pub fn by_last(name: &[u8], path: &[u8]) -> Compared
-    ensures { λ r. ⌜ (r .same ≡ false → (end : ℕ) → (false ≡ isThen end (now (name .entry)) (now (path .entry))) × (r .looked ≡ looked (now (name .entry)) (now (path .entry)))) ⌝ }
-{
-    if name.len() < path.len() {
-        return apart(0);
-    }
-    compare_last(name, path)
 }
 
 // Whether the name is the path and then the byte `end`: zero where it is the path itself, a slash where it lies below the path. The name

@@ -1,4 +1,4 @@
-// Little-endian fields of every width, read and written by one loop each, those of four and eight bytes read at once, and the checksum.
+// Little-endian fields, of four and eight bytes read at once and of every width written by one loop, and the checksum.
 
 use units::Offset;
 ghost use mathlib.Core.Path.{_≡_};
@@ -11,21 +11,6 @@ pub fn wide(x: u8) -> u64
     ensures { λ r. ⌜ (r ≡ x) × (r < 256) ⌝ }
 {
     x as u64
-}
-
-// The number that the w bytes from `at` on say.
-pub fn le_at(s: &[u8], at: Offset, w: usize) -> u64
-    requires { ⌜ (w ≤ 8) × (at .0 + w ≤ length (now s)) ⌝ }
-    ensures { λ r. ⌜ (r ≡ le w (now (s .entry)) (at .0)) × (r < 2 ^ (8 * w)) ⌝ }
-{
-    let first = at.index();
-    let mut r: u64 = 0;
-    let mut o = first + w;
-    while first < o {
-        o -= 1;
-        r = wide(s[o]) + 256 * r;
-    }
-    r
 }
 
 // Four bytes written out: the machine reads them at once then.

@@ -30,7 +30,7 @@ pub record Walks (s : List ℕ) (c : Cursor) : Type 0 where
   pub sound : faultless (itemsFrom s c) ≡ true
 
 -- a step to the entry at a spot
-pub record Reached (s : List ℕ) (c : Cursor) (p : Spot) (d : Cursor) : Type 0 where
+pub record Arrives (s : List ℕ) (c : Cursor) (p : Spot) (d : Cursor) : Type 0 where
   pub entries : entriesFrom s c ≡ spotView s p ∷ entriesFrom s d
   pub walks : Walks s d
   pub less : d .left < c .left
@@ -49,12 +49,12 @@ pub record Onward (s : List ℕ) (c : Cursor) (p : Spot) (d : Cursor) : Type 0 w
   pub place : d .at .0 + 64 * c .slot .0 ≡ c .at .0 + 64 * d .slot .0
   pub ahead : c .slot .0 ≤ d .slot .0
   pub ends : d .slot .0 + d .left ≡ c .slot .0 + c .left
-  pub entry : entryType (p .kind) ≡ true → Reached s c p d
+  pub entry : entryType (p .kind) ≡ true → Arrives s c p d
   pub unused : entryType (p .kind) ≡ false → entriesFrom s d ≡ entriesFrom s c
 
 unfoldable pub Stops : List ℕ → Cursor → Stop → Type 0
 Stops s c noMore = entriesFrom s c ≡ []
-Stops s c (At p d) = Reached s c p d
+Stops s c (At p d) = Arrives s c p d
 
 -- a step to an entry whose numbers are read
 pub record Step (s : List ℕ) (c : Cursor) (h : Head) (d : Cursor) : Type 0 where
@@ -99,7 +99,7 @@ module _ (s : List ℕ) (c : Cursor) (walks : Walks s c) (more : 0 < c .left) (t
       pub behind-less : d .left < c .left
       behind-less = omega (arith, past .left, count, stands .low)
 
-      pub reached : (p : Spot) → p .at .0 ≡ c .at .0 → p .slot .0 ≡ c .slot .0 → p .kind ≡ getD s (c .at .0) 0 → n ≤ 256 → Reached s c p d
+      pub reached : (p : Spot) → p .at .0 ≡ c .at .0 → p .slot .0 ≡ c .slot .0 → p .kind ≡ getD s (c .at .0) 0 → n ≤ 256 → Arrives s c p d
       reached p place number kind few =
           let view : spotView s p ≡ here = spot-view s (c .at .0) (c .slot .0) p place number kind type in
           let slots : n ≡ spotView s p .slots = count ∙ ap (λ (e : Entry). e .slots) (sym view) in
@@ -117,7 +117,7 @@ module _ (s : List ℕ) (c : Cursor) (walks : Walks s c) (more : 0 < c .left) (t
           }
 
 -- the numbers of the entry at a spot
-pub step-read : (s : List ℕ) (c : Cursor) (p : Spot) (d : Cursor) → Reached s c p d → (h : Head) → headView s h ≡ headOf (p .slot .0) (drop (p .at .0) s) → h .at .0 ≡ p .at .0
+pub step-read : (s : List ℕ) (c : Cursor) (p : Spot) (d : Cursor) → Arrives s c p d → (h : Head) → headView s h ≡ headOf (p .slot .0) (drop (p .at .0) s) → h .at .0 ≡ p .at .0
     → Step s c h d
 step-read s c p d r h view place =
     let n : h .slots ≡ spotView s p .slots = slots-is s (p .at .0) (p .slot .0) h view ∙ ap (λ (e : Entry). e .slots) (sym (r .view)) in
@@ -189,7 +189,7 @@ no-more s c z = rw (z, walk-none (c .slot .0) (drop (c .at .0) s))
 
 -- an entry that is reached from further on is reached from the start
 pub reached-before : (s : List ℕ) (b c : Cursor) (p : Spot) (d : Cursor) → entriesFrom s c ≡ entriesFrom s b → b .slot .0 ≤ c .slot .0 → c .slot .0 + c .left ≡ b .slot .0 + b .left
-    → c .at .0 + 64 * b .slot .0 ≡ b .at .0 + 64 * c .slot .0 → Reached s c p d → Reached s b p d
+    → c .at .0 + 64 * b .slot .0 ≡ b .at .0 + 64 * c .slot .0 → Arrives s c p d → Arrives s b p d
 reached-before s b c p d e l n q r = record {
   entries = sym e ∙ r .entries;
   walks = r .walks;

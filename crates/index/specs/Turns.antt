@@ -11,14 +11,14 @@ use Rattle.index.specs.declared.Stop.{Stop}
 use Rattle.index.specs.declared.Stop.the-variants.{End as noMore, At}
 use Rattle.index.specs.declared.Next.{Next}
 use Rattle.index.specs.declared.Next.the-variants.{End, Found}
-use Rattle.index.specs.Steps.{entriesFrom, Stops, Reached, Told, Step}
+use Rattle.index.specs.Steps.{entriesFrom, Stops, Arrives, Told, Step}
 
 module _ (s : List ℕ) (c : Cursor) (r : Stop) (stops : Stops s c r) where
   pub stops-end : r ≡ noMore → entriesFrom s c ≡ []
   unfolding Stops
   stops-end e = rw e at stops
 
-  pub stops-at : (p : Spot) (d : Cursor) → r ≡ At p d → Reached s c p d
+  pub stops-at : (p : Spot) (d : Cursor) → r ≡ At p d → Arrives s c p d
   unfolding Stops
   stops-at p d e = rw e at stops
 

@@ -7,8 +7,8 @@ use units::Slot;
 ghost use mathlib.Core.Path.{_≡_};
 ghost use mathlib.Core.Bool.{true};
 ghost use Prim.Native.Nat.{ℕ, _+_, _*_, _≤_, _<_};
-ghost use lib.ListN.{length, getD, drop};
-ghost use Rattle.rules.specs.Index.Items.{faultless, entryType, headOf};
+ghost use lib.ListN.{length, drop};
+ghost use Rattle.rules.specs.Index.Items.{faultless, headOf};
 ghost use Rattle.rules.specs.Writing.{lowestUnused};
 ghost use Rattle.index.specs.View.{runStep, stepAt, Inside, Past, itemsFrom};
 ghost use Rattle.index.specs.Steps.{Walks, Onward, Stops, Told};
@@ -169,7 +169,7 @@ pub enum Unused {
     At(Slot),
 }
 
-// The cursor behind the entries of one slot each that stand here. By itself the loop need not wait for a count to know where the next slot is.
+// The cursor behind the entries of one slot each that stand here. The loop need not wait for a count to know where the next slot is.
 fn past_singles(img: &[u8], from: Cursor) -> Cursor
     requires { ⌜ Walks (now img) from ⌝ }
     ensures { λ r. ⌜ Walks (now (img .entry)) r × (r .left ≤ from .left) × ((n : ℕ) → 1 ≤ n → lowestUnused n (itemsFrom (now (img .entry)) r) ≡ lowestUnused n (itemsFrom (now (img .entry)) from)) ⌝ }

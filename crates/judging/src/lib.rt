@@ -9,7 +9,7 @@ ghost use mathlib.Core.List.{List};
 ghost use Prim.Native.Nat.{ℕ, _/_, _≤_, min};
 ghost use lib.ListN.{length};
 ghost use Rattle.rules.specs.Refusals.{judge};
-ghost use Rattle.super_block.specs.View.{Passed};
+ghost use Rattle.super_block.specs.View.{SuperGood};
 ghost use Rattle.judging.specs.View.{judgedView};
 ghost use Rattle.judging.specs.Keeping.{Keeps};
 
@@ -41,7 +41,7 @@ pub fn has_few(g: Geometry) -> bool
 // 6, 7 and 8: three passes over the whole index. The paths are judged before the regions, whose keys are to stay in `keys`. Both slices have room
 // for all slots of the index that can hold entries.
 pub fn judge_index(img: &[u8], g: Geometry, keys: &mut [u64], tmp: &mut [u64]) -> Kept
-    requires { ⌜ Passed (now img) g × (min (g .index / 64) 4_094 ≤ length (now keys)) × (length (now keys) ≤ length (now tmp)) ⌝ }
+    requires { ⌜ SuperGood (now img) g × (min (g .index / 64) 4_094 ≤ length (now keys)) × (length (now keys) ≤ length (now tmp)) ⌝ }
     ensures { λ r. ⌜ Keeps (now (img .entry)) (judge (now (img .entry))) (now (keys .exit)) r ⌝ }
 {
     if !super_block::index_sound(img, g) {
@@ -70,9 +70,9 @@ fn verdict(kept: Kept) -> Judged
     }
 }
 
-// An index of few slots, judged with little scratch: what is cleared of it counts there.
+// An index of few slots, judged with little scratch: in so short a call its clearing counts.
 fn judge_few(img: &[u8], g: Geometry) -> Judged
-    requires { ⌜ Passed (now img) g × (g .index / 64 ≤ 512) ⌝ }
+    requires { ⌜ SuperGood (now img) g × (g .index / 64 ≤ 512) ⌝ }
     ensures { λ r. ⌜ judgedView (now (img .entry)) r ≡ judge (now (img .entry)) ⌝ }
 {
     let mut keys = [0u64; FEW];
@@ -80,9 +80,9 @@ fn judge_few(img: &[u8], g: Geometry) -> Judged
     verdict(judge_index(img, g, &mut keys, &mut tmp))
 }
 
-// Any index.
+// Any index, with scratch for the most slots.
 fn judge_many(img: &[u8], g: Geometry) -> Judged
-    requires { ⌜ Passed (now img) g ⌝ }
+    requires { ⌜ SuperGood (now img) g ⌝ }
     ensures { λ r. ⌜ judgedView (now (img .entry)) r ≡ judge (now (img .entry)) ⌝ }
 {
     let mut keys = [0u64; MOST];

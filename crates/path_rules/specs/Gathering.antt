@@ -25,7 +25,7 @@ use Rattle.numbering.specs.Numbers.{loaded, loaded-place, Stands, loaded-stand,
 use Rattle.slots.specs.declared.Spot.{Spot}
 use Rattle.slots.specs.View.{spotView}
 use Rattle.index.specs.declared.Cursor.{Cursor}
-use Rattle.index.specs.Steps.{Walks, Reached, entriesFrom}
+use Rattle.index.specs.Steps.{Walks, Arrives, entriesFrom}
 
 -- the entry of the run at a key's place, in slots behind a cursor
 unfoldable pub keyEntry : List ℕ → Cursor → ℕ → Entry
@@ -49,7 +49,7 @@ pub record GatheringLive (s : List ℕ) (from : Cursor) (keys : List ℕ) (c : C
   pub gathered : turned (only isLive (entriesFrom s c)) ++ map (keyEntry s from) (drop i keys) ≡ turned (only isLive (entriesFrom s from))
 
 -- the entry that was found, by its place
-module _ (s : List ℕ) (c : Cursor) (e : Spot) (d : Cursor) (step : Reached s c e d) where
+module _ (s : List ℕ) (c : Cursor) (e : Spot) (d : Cursor) (step : Arrives s c e d) where
   live-entry : liveType (e .kind) ≡ true → spotView s e ≡ entryAt (e .slot .0) (drop (e .at .0) s)
   live-entry t =
       let r : runType (e .kind) ≡ true = live-run (e .kind) t in
@@ -103,7 +103,7 @@ module _ (s : List ℕ) (from : Cursor) where
       entries = ap (λ (es : List Entry). turned (only isLive es) ++ map (keyEntry s from) (drop i keys)) (sym e) ∙ at .gathered;
     }
 
-    module _ (e : Spot) (d : Cursor) (step : Reached s c e d) (few : from .left ≤ 65_536) where
+    module _ (e : Spot) (d : Cursor) (step : Arrives s c e d) (few : from .left ≤ 65_536) where
       key-small : e .slot .0 - from .slot .0 < 65_536
       key-small = omega (arith, step .number, step .ends, at .ends, step .spot .low)
 

@@ -7,7 +7,7 @@ use native.Mathlib.Omega.{arith}
 use native.Mathlib.Nat.{zero-add, add-zero}
 use lib.ListN.{drop}
 use Rattle.rules.specs.Lists.{pick, only}
-use Rattle.rules.specs.Lists.Laws.{pick-true, pick-false}
+use Rattle.rules.specs.Lists.Laws.{pick-true, pick-false, and-true}
 use Rattle.rules.specs.SuperBlock.{Geometry}
 use Rattle.rules.specs.Index.{nameField, slotAt}
 use Rattle.rules.specs.Index.Items.{headOf, entryType}
@@ -17,12 +17,14 @@ use Rattle.slots.specs.declared.Head.{Head}
 use Rattle.slots.specs.declared.Spot.{Spot}
 use Rattle.slots.specs.View.{headView, spotView, SpotIn, name-short, head-spot}
 use Rattle.index.specs.declared.Cursor.{Cursor}
-use Rattle.index.specs.Steps.{Walks, entriesFrom, Reached, Onward}
+use Rattle.index.specs.Steps.{Walks, entriesFrom, Arrives, Onward}
 use Rattle.paths.specs.declared.Sought.{Sought}
+use Rattle.paths.specs.declared.Way.{Way}
+use Rattle.paths.specs.declared.Way.the-variants.{On, At}
 use Rattle.paths.specs.declared.Hit.{Hit}
 use Rattle.paths.specs.declared.Hit.the-variants.{Nothing as noHit, Entry as hitAt}
-use Rattle.paths.specs.View.{passes, compares, OfRuns, nameOf, spotLooked, LookedFrom, Hits, hits-none, hits-some}
-use Rattle.paths.specs.Entries.{only-end, only-stop, only-next, compared-run, unsought}
+use Rattle.paths.specs.View.{soughtKind, passes, compares, OfRuns, nameOf, spotLooked, LookedFrom, Hits, hits-none, hits-some}
+use Rattle.paths.specs.Entries.{only-end, only-stop, only-next, compared-run, sought-entry, unsought}
 
 -- ---- one entry
 -- no name has more than 16,384 bytes, and one of them may be looked at twice
@@ -44,17 +46,13 @@ spot-entry s g e what p q = ap (λ (at : ℕ). pick (compares what (spotView s e
 abbrev pub FewLooked : Cursor → ℕ → Type 0
 FewLooked d n = n + 16_385 * d .left ≤ 16_385 * 262_144
 
--- what is told apart at once: it does not pass, and n bytes of its name are looked at
-abbrev pub PassedOver : List ℕ → Spot → Sought → List ℕ → ℕ → Type 0
-PassedOver s e what p n = (passes what p (spotView s e) ≡ false) × (n ≡ spotLooked s e what p)
-
 -- ---- a search from c that has come to d and looked at n bytes
 module _ (s : List ℕ) (what : Sought) (p : List ℕ) (c : Cursor) where
   abbrev lookedFrom : Geometry → Cursor → ℕ
   lookedFrom g d = searchLooked s g (compares what) (passes what p) p (entriesFrom s d)
 
   -- what it comes to
-  abbrev Comes : Hit → ℕ → Type 0
+  abbrev pub Comes : Hit → ℕ → Type 0
   Comes r n = Hits s (passes what p) (entriesFrom s c) r × LookedFrom s c (compares what) (passes what p) p n
 
   pub record Going (d : Cursor) (n : ℕ) : Type 0 where
@@ -91,7 +89,7 @@ module _ (s : List ℕ) (what : Sought) (p : List ℕ) (c : Cursor) where
       few = omega (arith, going .few, l, z);
     }
 
-    module _ (of : OfRuns what) (e : Spot) (d′ : Cursor) (step : Reached s d e d′) (m : ℕ) (tried : m ≡ spotLooked s e what p) where
+    module _ (of : OfRuns what) (e : Spot) (d′ : Cursor) (step : Arrives s d e d′) (m : ℕ) (tried : m ≡ spotLooked s e what p) where
       here : (g : Geometry) → c .at .0 ≡ slotAt s g (c .slot .0) → entryLooked s g (compares what) p (spotView s e) ≡ m
       unfolding slotAt
       here g q = spot-entry s g e what p (omega (arith, q, going .place, step .place)) ∙ sym tried
@@ -132,29 +130,29 @@ module _ (s : List ℕ) (what : Sought) (p : List ℕ) (d : Cursor) (n : ℕ) wh
   pub over-none : Walks s d → FewLooked d n → Over s what p d n d n
   over-none w f = record { walks = w; few = f; onward = omega arith; going = λ c g. g }
 
-  module _ (of : OfRuns what) (d′ : Cursor) (n′ : ℕ) (over : Over s what p d n d′ n′) (e : Spot) (d″ : Cursor) (step : Onward s d′ e d″) (m : ℕ) (told : PassedOver s e what p m) where
+  module _ (of : OfRuns what) (d′ : Cursor) (n′ : ℕ) (over : Over s what p d n d′ n′) (e : Spot) (d″ : Cursor) (step : Onward s d′ e d″) (m : ℕ) (tried : m ≡ spotLooked s e what p) where
     -- what is looked at of an entry, and of an unused slot
-    by-slot : {A : Type 0} → (Reached s d′ e d″ → A) → (entriesFrom s d″ ≡ entriesFrom s d′ → m ≡ 0 → A) → A
+    by-slot : {A : Type 0} → (Arrives s d′ e d″ → A) → (entriesFrom s d″ ≡ entriesFrom s d′ → m ≡ 0 → A) → A
     unfolding spotLooked compares spotView pick
     by-slot {A} f g = by (entryType (e .kind)) refl
       where
         by : (t : Bool) → entryType (e .kind) ≡ t → A
         by true u = f (step .entry u)
-        by false u = g (step .unused u) (told .1 ∙ rw (unsought what (e .kind) of u))
+        by false u = g (step .unused u) (tried ∙ rw (unsought what (e .kind) of u))
 
     few-more : m ≤ 16_385
-    few-more = by-slot (λ r. omega (arith, told .1, spot-few s e what p of (r .spot))) (λ x z. omega (arith, z))
+    few-more = by-slot (λ r. omega (arith, tried, spot-few s e what p of (r .spot))) (λ x z. omega (arith, z))
 
     pub over-room : n′ + m < 2 ^ 64
     over-room = omega (arith, over .few, few-more)
 
-    pub over-next : Over s what p d n d″ (n′ + m)
-    over-next = record {
+    pub over-next : passes what p (spotView s e) ≡ false → Over s what p d n d″ (n′ + m)
+    over-next t = record {
       walks = step .walks;
       few = omega (arith, over .few, step .less, few-more);
       onward = omega (arith, over .onward, step .less);
       going = λ c g.
-          by-slot (λ r. going-next s what p c d′ n′ (over .going c g) of e d″ r m (told .1) (told .0))
+          by-slot (λ r. going-next s what p c d′ n′ (over .going c g) of e d″ r m tried t)
           (λ x z. going-skip s what p c d′ n′ (over .going c g) d″ x (step .walks) (step .less) (step .place) m z);
     }
 
@@ -166,3 +164,45 @@ over-over s what p d n d′ n′ d″ n″ a b = record {
   onward = omega (arith, a .onward, b .onward);
   going = λ c g. b .going c (a .going c g);
 }
+
+-- ---- how far a search came
+-- to the entry at a spot, which passes: whatever the search had come to before, with the numbers read it comes to that entry
+pub record Strikes (s : List ℕ) (what : Sought) (p : List ℕ) (d : Cursor) (n : ℕ) (e : Spot) (rest : Cursor) (n′ : ℕ) : Type 0 where
+  pub spot : SpotIn s e
+  pub comes : (c : Cursor) → Going s what p c d n → (h : Head) → headView s h ≡ headOf (e .slot .0) (drop (e .at .0) s) → h .at .0 ≡ e .at .0 → Comes s what p c (hitAt h rest) n′
+
+unfoldable pub Goes : List ℕ → Sought → List ℕ → Cursor → ℕ → Way → Type 0
+Goes s what p d n (On d′ n′) = Over s what p d n d′ n′
+Goes s what p d n (At e rest n′) = Strikes s what p d n e rest n′
+
+unfoldable pub Ends : Way → Type 0
+Ends (On d n) = d .left ≡ 0
+Ends (At e rest n) = Unit {0}
+
+module _ (s : List ℕ) (what : Sought) (p : List ℕ) (d : Cursor) (n : ℕ) (r : Way) (told : Goes s what p d n r) where
+  pub goes-on : (d′ : Cursor) (n′ : ℕ) → r ≡ On d′ n′ → Over s what p d n d′ n′
+  unfolding Goes
+  goes-on d′ n′ e = rw e at told
+
+  pub goes-at : (e : Spot) (rest : Cursor) (n′ : ℕ) → r ≡ At e rest n′ → Strikes s what p d n e rest n′
+  unfolding Goes
+  goes-at e rest n′ q = rw q at told
+
+pub ends-on : (r : Way) → Ends r → (d : Cursor) (n : ℕ) → r ≡ On d n → d .left ≡ 0
+unfolding Ends
+ends-on r told d n e = rw e at told
+
+-- the entry behind a step passes
+pub strikes : (s : List ℕ) (what : Sought) (p : List ℕ) (d : Cursor) (n : ℕ) (of : OfRuns what) (d′ : Cursor) (n′ : ℕ) → Over s what p d n d′ n′ → (e : Spot) (rest : Cursor) → Onward s d′ e rest
+    → (m : ℕ) → m ≡ spotLooked s e what p → passes what p (spotView s e) ≡ true → Strikes s what p d n e rest (n′ + m)
+unfolding passes spotView
+strikes s what p d n of d′ n′ over e rest step m tried t =
+    let r = step .entry (sought-entry what (e .kind) of (and-true (soughtKind what (e .kind)) _ t .0)) in
+    record {
+      spot = r .spot;
+      comes = λ c g h view place. going-found s what p c d′ n′ (over .going c g) of e rest r m tried t h view place;
+    }
+
+pub strikes-over : (s : List ℕ) (what : Sought) (p : List ℕ) (d : Cursor) (n : ℕ) (d′ : Cursor) (n′ : ℕ) → Over s what p d n d′ n′ → (e : Spot) (rest : Cursor) (n″ : ℕ) → Strikes s what p d′ n′ e rest n″
+    → Strikes s what p d n e rest n″
+strikes-over s what p d n d′ n′ over e rest n″ k = record { spot = k .spot; comes = λ c g. k .comes c (over .going c g) }

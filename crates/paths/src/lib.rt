@@ -2,7 +2,6 @@
 
 use comparing::Compared;
 use comparing::apart;
-use comparing::by_last;
 use comparing::compare;
 use index::Cursor;
 use index::Stop;
@@ -23,9 +22,10 @@ ghost use Rattle.rules.specs.Comparing.{looked};
 ghost use Rattle.comparing.specs.Walk.{isThen};
 ghost use Rattle.slots.specs.View.{spotView, SpotIn};
 ghost use Rattle.index.specs.Steps.{Walks, entriesFrom};
-ghost use Rattle.paths.specs.Searching.{PassedOver, FewLooked, Over};
+ghost use Rattle.paths.specs.Searching.{FewLooked, Goes, Ends};
 ghost use Rattle.paths.specs.View.{Hits, Searched, isFound, passes, soughtKind, compares, OfRuns, liveFrom, nameOf, spotLooked, LookedFrom};
 
+// The entry that a search found.
 pub enum Search {
     Nothing,
     Entry(Head),
@@ -90,9 +90,9 @@ fn compare_name(img: &[u8], e: Spot, path: &[u8], end: u8) -> Compared
     compare(slots::name_field(img, e.at), path, end)
 }
 
-// Whether the entry passes (`same`), and how many bytes of its name were looked at. A name is compared only where the type is sought.
+// Whether what stands there passes (`same`), and how many bytes of its name were looked at. A name is compared only where the type is sought.
 fn passes(img: &[u8], e: Spot, what: Sought, path: &[u8]) -> Compared
-    requires { ⌜ SpotIn (now img) e × OfRuns what ⌝ }
+    requires { ⌜ OfRuns what × (soughtKind what (e .kind) ≡ true → SpotIn (now img) e) ⌝ }
     ensures { λ r. ⌜ r .same ≡ passes what (now (path .entry)) (spotView (now (img .entry)) e) ⌝ }
     ensures counted { λ r. ⌜ r .looked ≡ spotLooked (now (img .entry)) e what (now (path .entry)) ⌝ }
 {
@@ -102,73 +102,67 @@ fn passes(img: &[u8], e: Spot, what: Sought, path: &[u8]) -> Compared
     compare_name(img, e, path, what.end)
 }
 
-// Whether what stands there may pass, by its type and by the byte at the path's last place: a no is one, with its count.
-fn may_pass(img: &[u8], e: Spot, what: Sought, path: &[u8]) -> Compared
-    requires { ⌜ OfRuns what × (soughtKind what (e .kind) ≡ true → SpotIn (now img) e) ⌝ }
-    ensures { λ r. ⌜ (r .same ≡ false → PassedOver (now (img .entry)) e what (now (path .entry)) (r .looked)) ⌝ }
-{
-    if !is_sought(what, e.kind) {
-        return apart(0);
-    }
-    by_last(slots::name_field(img, e.at), path)
-}
-
 // ---- searches
 
-// Where a search stands, and how many bytes of the names before it were looked at.
-struct Along {
-    at: Cursor,
-    looked: usize,
+// How far a search came, and how many bytes of names it looked at: to a cursor, with nothing that passes before it, or to an entry that passes, with
+// the cursor behind it.
+enum Way {
+    On(Cursor, usize),
+    At(Spot, Cursor, usize),
 }
 
-// A search taken past the slots that are told apart at once, as most are, up to one that does not stand by itself. The loop is short: it has no name
-// to walk and no numbers to read, and it does not wait for a count to know where the next slot is.
-fn pass_singles(img: &[u8], from: Cursor, what: Sought, path: &[u8], looked: usize) -> Along
+// A search taken on over the slots that stand by themselves, as most do, up to one with more slots behind it. The loop does not wait for a count to
+// know where the next slot is.
+fn pass_singles(img: &[u8], from: Cursor, what: Sought, path: &[u8], looked: usize) -> Way
     requires { ⌜ Walks (now img) from × OfRuns what × FewLooked from looked ⌝ }
-    ensures { λ r. ⌜ Over (now (img .entry)) what (now (path .entry)) from looked (r .at) (r .looked) ⌝ }
+    ensures { λ r. ⌜ Goes (now (img .entry)) what (now (path .entry)) from looked r ⌝ }
 {
     let mut c = from;
     let mut n = looked;
     while 0 < c.left {
         let at = c.at;
         if !slots::is_single(img, at) {
-            return Along { at: c, looked: n };
+            return Way::On(c, n);
         }
         let next = single(img, c);
         let here = next.here;
         let rest = next.rest;
-        let tried = may_pass(img, here, what, path);
-        if tried.same {
-            return Along { at: c, looked: n };
-        }
+        let tried = passes(img, here, what, path);
         n += tried.looked;
+        if tried.same {
+            return Way::At(here, rest, n);
+        }
         c = rest;
     }
-    Along { at: c, looked: n }
+    Way::On(c, n)
 }
 
-// The same past every slot that is told apart at once.
-fn pass_over(img: &[u8], from: Cursor, what: Sought, path: &[u8], looked: usize) -> Along
-    requires { ⌜ Walks (now img) from × OfRuns what × FewLooked from looked ⌝ }
-    ensures { λ r. ⌜ Over (now (img .entry)) what (now (path .entry)) from looked (r .at) (r .looked) ⌝ }
+// The same over all slots: where it comes to a cursor, that is the end.
+fn pass_over(img: &[u8], from: Cursor, what: Sought, path: &[u8]) -> Way
+    requires { ⌜ Walks (now img) from × OfRuns what ⌝ }
+    ensures { λ r. ⌜ Goes (now (img .entry)) what (now (path .entry)) from 0 r ⌝ }
+    ensures ended { λ r. ⌜ Ends r ⌝ }
 {
     let mut c = from;
-    let mut n = looked;
+    let mut n: usize = 0;
     loop {
-        let along = pass_singles(img, c, what, path, n);
-        let at = along.at;
-        if at.left == 0 {
-            return along;
+        match pass_singles(img, c, what, path, n) {
+            Way::At(e, rest, looked) => return Way::At(e, rest, looked),
+            Way::On(at, looked) => {
+                if at.left == 0 {
+                    return Way::On(at, looked);
+                }
+                let next = further(img, at);
+                let here = next.here;
+                let rest = next.rest;
+                let tried = passes(img, here, what, path);
+                n = looked + tried.looked;
+                if tried.same {
+                    return Way::At(here, rest, n);
+                }
+                c = rest;
+            }
         }
-        let next = further(img, at);
-        let here = next.here;
-        let rest = next.rest;
-        let tried = may_pass(img, here, what, path);
-        if tried.same {
-            return along;
-        }
-        n = along.looked + tried.looked;
-        c = rest;
     }
 }
 
@@ -189,27 +183,16 @@ fn next_hit(img: &[u8], from: Cursor, what: Sought, path: &[u8]) -> Met
     ensures { λ r. ⌜ Hits (now (img .entry)) (passes what (now (path .entry))) (entriesFrom (now (img .entry)) from) (r .hit) ⌝ }
     ensures counted { λ r. ⌜ LookedFrom (now (img .entry)) from (compares what) (passes what (now (path .entry))) (now (path .entry)) (r .looked) ⌝ }
 {
-    let mut at = from;
-    let mut looked: usize = 0;
-    loop {
-        let along = pass_over(img, at, what, path, looked);
-        let here = along.at;
-        match next_spot(img, here) {
-            Stop::End => return Met {
-                hit: Hit::Nothing,
-                looked: along.looked,
-            },
-            Stop::At(e, rest) => {
-                let tried = passes(img, e, what, path);
-                looked = along.looked + tried.looked;
-                if tried.same {
-                    let h = slots::head_at(img, e.at, e.slot);
-                    return Met {
-                        hit: Hit::Entry(h, rest),
-                        looked,
-                    };
-                }
-                at = rest;
+    match pass_over(img, from, what, path) {
+        Way::On(_, looked) => Met {
+            hit: Hit::Nothing,
+            looked,
+        },
+        Way::At(e, rest, looked) => {
+            let h = slots::head_at(img, e.at, e.slot);
+            Met {
+                hit: Hit::Entry(h, rest),
+                looked,
             }
         }
     }

@@ -21,7 +21,7 @@ ghost use Rattle.rules.specs.Writing.{newSlots, newBlocks, grownPlace, placeRun
 ghost use Rattle.geometry.specs.View.{geometryView};
 ghost use Rattle.regions.specs.Gathering.{HasRegions};
 ghost use Rattle.free_runs.specs.View.{freeView};
-ghost use Rattle.super_block.specs.View.{Passed};
+ghost use Rattle.super_block.specs.View.{SuperGood};
 ghost use Rattle.judging.specs.View.{Opened, volumeOf};
 ghost use Rattle.judging.specs.Keeping.{KeysOf};
 ghost use Rattle.planning.specs.Places.{placeView, siteFrom, Begins};
@@ -188,7 +188,7 @@ fn plan_opened(
     plan_places(img, g, from, keys, i, file, path, bytes, stamp)
 }
 
-// 6 to 8 before that, with lent scratch, which keeps the keys of the regions.
+// 6 to 8, and then the rest. The lent scratch keeps the keys of the regions.
 fn plan_judged(
     img: &[u8],
     g: Geometry,
@@ -199,7 +199,7 @@ fn plan_judged(
     bytes: &[u8],
     stamp: u64,
 ) -> Plan
-    requires { ⌜ Passed (now img) g × (min (g .index / 64) 4_094 ≤ length (now keys)) × (length (now keys) ≤ length (now tmp)) ⌝ }
+    requires { ⌜ SuperGood (now img) g × (min (g .index / 64) 4_094 ≤ length (now keys)) × (length (now keys) ≤ length (now tmp)) ⌝ }
     ensures { λ r. ⌜ Planned (now (img .entry)) (newOf file (now (bytes .entry))) (now (path .entry)) (signedOf stamp) r ⌝ }
 {
     match judging::judge_index(img, g, keys, tmp) {
@@ -208,9 +208,9 @@ fn plan_judged(
     }
 }
 
-// The same with scratch for an index of few slots, and of any.
+// The same with scratch for an index of few slots.
 fn plan_few(img: &[u8], g: Geometry, file: bool, path: &[u8], bytes: &[u8], stamp: u64) -> Plan
-    requires { ⌜ Passed (now img) g × (g .index / 64 ≤ 512) ⌝ }
+    requires { ⌜ SuperGood (now img) g × (g .index / 64 ≤ 512) ⌝ }
     ensures { λ r. ⌜ Planned (now (img .entry)) (newOf file (now (bytes .entry))) (now (path .entry)) (signedOf stamp) r ⌝ }
 {
     let mut keys = [0u64; judging::FEW];
@@ -218,8 +218,9 @@ fn plan_few(img: &[u8], g: Geometry, file: bool, path: &[u8], bytes: &[u8], stam
     plan_judged(img, g, &mut keys, &mut tmp, file, path, bytes, stamp)
 }
 
+// The same with scratch for any index.
 fn plan_many(img: &[u8], g: Geometry, file: bool, path: &[u8], bytes: &[u8], stamp: u64) -> Plan
-    requires { ⌜ Passed (now img) g ⌝ }
+    requires { ⌜ SuperGood (now img) g ⌝ }
     ensures { λ r. ⌜ Planned (now (img .entry)) (newOf file (now (bytes .entry))) (now (path .entry)) (signedOf stamp) r ⌝ }
 {
     let mut keys = [0u64; judging::MOST];

@@ -145,7 +145,7 @@ pub struct Head {
     pub length: u64,
 }
 
-// Where an entry stands: the place and the number of its first slot, and its type.
+// A slot that starts an entry, or is unused: its place, its first byte and its number.
 pub struct Spot {
     pub at: Offset,
     pub kind: u8,
@@ -181,7 +181,7 @@ pub fn slots_from(img: &[u8], at: Offset, kind: u8) -> u64
     1
 }
 
-// Whether a walk goes on by one slot from `at`, told without adding: what stands behind is then known before the count is read.
+// A yes: a walk goes on by one slot from `at`. The count is only tested, so that where the next slot is does not depend on it.
 pub fn is_single(img: &[u8], at: Offset) -> bool
     requires { ⌜ at .0 + 64 ≤ length (now img) ⌝ }
     ensures { λ r. ⌜ (r ≡ true → (k : ℕ) → headOf k (drop (at .0) (now (img .entry))) .slots ≡ 1) ⌝ }

@@ -22,11 +22,11 @@ pub record Judged (s : List ℕ) (g : Held) : Type 0 where
   pub good : GoodGeometry (length s) (geometryView g)
 
 -- the refusals 1 to 5 do not hold, and g is the geometry
-abbrev pub Passed : List ℕ → Held → Type 0
-Passed s g = judgeGeometry s ≡ accepted (geometryView g)
+abbrev pub SuperGood : List ℕ → Held → Type 0
+SuperGood s g = judgeGeometry s ≡ accepted (geometryView g)
 
-pub passed : (s : List ℕ) (r : SuperBlock) (g : Held) → superView r ≡ judgeGeometry s → r ≡ Good g → Passed s g
-passed s r g e i = sym e ∙ ap superView i
+pub super-good : (s : List ℕ) (r : SuperBlock) (g : Held) → superView r ≡ judgeGeometry s → r ≡ Good g → SuperGood s g
+super-good s r g e i = sym e ∙ ap superView i
 
-pub passed-judged : (s : List ℕ) (g : Held) → Passed s g → Judged s g
-passed-judged s g e = let o = judge-super s (geometryView g) e in record { short = o .length-high; good = o .geometry-good }
+pub good-judged : (s : List ℕ) (g : Held) → SuperGood s g → Judged s g
+good-judged s g e = let o = judge-super s (geometryView g) e in record { short = o .length-high; good = o .geometry-good }

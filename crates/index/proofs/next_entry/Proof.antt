@@ -1,13 +1,13 @@
 use native.Mathlib.Omega.{arith}
 use denote.Ref.{now}
-use Rattle.index.specs.Steps.{Told, Reached, step-read}
+use Rattle.index.specs.Steps.{Told, Arrives, step-read}
 use Rattle.index.specs.Turns.{stops-end, stops-at}
 use borrow.Author.Needs.{needs}
 use Rattle.index.proofs.next_entry.Statement.{statement}
 use Rattle.index.proofs.next_entry.Tie as tie
 
 here : (c : tie.After-p) → let n = c .before .before .before in
-    Reached (now (n .before .args .img)) (n .before .args .from) (c .p .given .0 .0) (c .p .given .0 .1 .0)
+    Arrives (now (n .before .args .img)) (n .before .args .from) (c .p .given .0 .0) (c .p .given .0 .1 .0)
 here c = stops-at _ _ _ (c .before .before .next-spot .ensures) _ _ (c .p .given .1)
 
 head-at-requires : tie.Need-head-at-requires

@@ -2,13 +2,13 @@ use mathlib.Core.Path.{sym, ap, _∙_}
 use denote.Ref.{now}
 use borrow.Author.Needs.{needs}
 use Rattle.rules.specs.Refusals.Laws.{judge-refused}
-use Rattle.super_block.specs.View.{superView, Passed, passed}
+use Rattle.super_block.specs.View.{superView, SuperGood, super-good}
 use Rattle.judging.specs.View.{judgedView}
 use Rattle.judging.proofs.judge.Statement.{statement}
 use Rattle.judging.proofs.judge.Tie as tie
 
-here : (c : tie.After-g) → Passed (now (c .before .before .before .before .args .img)) (c .g .given .0 .0)
-here c = passed _ _ _ (c .before .before .judge-super .ensures) (c .g .given .1)
+here : (c : tie.After-g) → SuperGood (now (c .before .before .before .before .args .img)) (c .g .given .0 .0)
+here c = super-good _ _ _ (c .before .before .judge-super .ensures) (c .g .given .1)
 
 judge-few-requires : tie.Need-judge-few-requires
 judge-few-requires c κs = (here (c .before .before .before), c .before .has-few .ensures (c .if1 .taken))

@@ -10,7 +10,7 @@ use Rattle.rules.specs.Paths.{pathsSound}
 use Rattle.rules.specs.Refusals.Laws.{judge-index, index-bad-slots, index-bad-regions, index-bad-paths, index-good}
 use Rattle.geometry.specs.View.{geometryView}
 use Rattle.index.specs.Steps.{Walks, entriesFrom}
-use Rattle.super_block.specs.View.{passed-judged}
+use Rattle.super_block.specs.View.{good-judged}
 use Rattle.super_block.specs.Ends.{sound-walks}
 use Rattle.regions.specs.Bounds.{good-bounded}
 use Rattle.regions.specs.Gathering.{regions-unsound, regions-from}
@@ -65,7 +65,7 @@ judge-regions-requires : tie.Need-judge-regions-requires
 judge-regions-requires c κs =
     let f = begun (c .before .before .before .before .before .before) in
     let p = start f .pre in
-    let j = passed-judged _ _ (p .0) in
+    let j = good-judged _ _ (p .0) in
     (good-bounded _ _ (j .good) (j .short), walks f, omega (arith, f .first-slot .ensures .3, f .first-slot .ensures .4, p .1), omega (arith, p .2))
 
 returns-2 : tie.Need-returns-2
@@ -94,9 +94,9 @@ pub judge-index-spec : {M : Type 1} → statement M
 judge-index-spec =
     tie.close
     (tie.spec
-    (λ c κs. passed-judged _ _ (c .before .before .before .pre .0))
+    (λ c κs. good-judged _ _ (c .before .before .before .pre .0))
     returns
-    (λ c κs. passed-judged _ _ (c .before .before .before .before .before .pre .0))
+    (λ c κs. good-judged _ _ (c .before .before .before .before .before .pre .0))
     paths-sound-requires
     judge-regions-requires
     (λ c. search needs)

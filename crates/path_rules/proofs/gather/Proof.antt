@@ -3,7 +3,7 @@ use native.Mathlib.Omega.{arith}
 use lib.ListN.{length}
 use borrow.Author.Needs.{needs}
 use denote.Ref.{now}
-use Rattle.index.specs.Steps.{Reached}
+use Rattle.index.specs.Steps.{Arrives}
 use Rattle.index.specs.Turns.{stops-end, stops-at}
 use Rattle.path_rules.specs.Gathering.{GatheringLive, gather-none, gather-end, gather-next}
 use Rattle.path_rules.proofs.gather.Statement.{statement}
@@ -21,7 +21,7 @@ returns c =
     gather-end _ _ _ _ _ (n .before .loop .inv .1) (stops-end _ _ _ (n .next-spot .ensures) (c .enum-told .given .1))
 
 step : (c : tie.After-e Inv-loop μ-loop) → let l = c .before .before .before in
-    Reached (now (l .before .before .before .args .img)) (l .loop .c) (c .e .given .0 .0) (c .e .given .0 .1 .0)
+    Arrives (now (l .before .before .before .args .img)) (l .loop .c) (c .e .given .0 .0) (c .e .given .0 .1 .0)
 step c = stops-at _ _ _ (c .before .before .next-spot .ensures) _ _ (c .e .given .1)
 
 put-live-requires : tie.Need-put-live-requires Inv-loop μ-loop

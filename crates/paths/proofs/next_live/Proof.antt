@@ -6,7 +6,7 @@ use Rattle.rules.specs.Lists.{only}
 use Rattle.rules.specs.Lists.Laws.{first-chosen, first-unchosen}
 use Rattle.rules.specs.Paths.{nextLive}
 use Rattle.slots.specs.View.{head-spot}
-use Rattle.index.specs.Steps.{Walks, entriesFrom, Reached}
+use Rattle.index.specs.Steps.{Walks, entriesFrom, Arrives}
 use Rattle.index.specs.Turns.{stops-end, stops-at}
 use Rattle.paths.specs.View.{liveFrom, searched-none, searched-some}
 use Rattle.paths.specs.Entries.{only-end, only-stop, only-next}
@@ -28,7 +28,7 @@ returns c =
     searched-none _ _ (first-unchosen _ _ (sym (l .loop .inv .1) ∙ only-end _ _ (stops-end _ _ _ (n .next-spot .ensures) (c .enum-told .given .1))))
 
 step : (c : tie.After-e Inv-loop μ-loop) → let l = c .before .before .before in
-    Reached (now (l .before .before .args .img)) (l .loop .at) (c .e .given .0 .0) (c .e .given .0 .1 .0)
+    Arrives (now (l .before .before .args .img)) (l .loop .at) (c .e .given .0 .0) (c .e .given .0 .1 .0)
 step c = stops-at _ _ _ (c .before .before .next-spot .ensures) _ _ (c .e .given .1)
 
 head-at-requires : tie.Need-head-at-requires Inv-loop μ-loop

@@ -1,14 +1,14 @@
 use mathlib.Core.Path.{sym, ap, _∙_}
 use denote.Ref.{now}
 use Rattle.rules.specs.Refusals.Laws.{judge-refused}
-use Rattle.super_block.specs.View.{superView, Passed, passed}
+use Rattle.super_block.specs.View.{superView, SuperGood, super-good}
 use Rattle.planning.specs.Planned.{planned-refused}
 use borrow.Author.Needs.{needs}
 use Rattle.planning.proofs.plan_create.Statement.{statement}
 use Rattle.planning.proofs.plan_create.Tie as tie
 
-here : (c : tie.After-g) → Passed (now (c .before .before .before .before .before .before .args .img)) (c .g .given .0 .0)
-here c = passed _ _ _ (c .before .before .judge-super .ensures) (c .g .given .1)
+here : (c : tie.After-g) → SuperGood (now (c .before .before .before .before .before .before .args .img)) (c .g .given .0 .0)
+here c = super-good _ _ _ (c .before .before .judge-super .ensures) (c .g .given .1)
 
 returns-2 : tie.Need-returns-2
 returns-2 c = planned-refused _ _ _ _ _ (judge-refused _ (sym (c .before .before .before .judge-super .ensures) ∙ ap superView (c .before .n .given .1)))

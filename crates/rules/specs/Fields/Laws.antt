@@ -20,10 +20,6 @@ use Rattle.rules.specs.Lists.Laws.{getD-part, part-ext}
 
 -- ---- le
 
-pub le-zero : (s : List ℕ) (at : ℕ) → le 0 s at ≡ 0
-unfolding le
-le-zero s at = refl
-
 pub le-suc : (w : ℕ) (s : List ℕ) (at : ℕ) → le (suc w) s at ≡ getD s at 0 + 256 * le w s (at + 1)
 unfolding le
 le-suc w s at = refl
@@ -142,26 +138,13 @@ leBytes-le (suc w) s at h (suc j) l =
     let n : at + 1 + j ≡ at + suc j = omega arith in
     ap (λ (v : ℕ). getD (leBytes w v) j 0) q ∙ leBytes-le w s (at + 1) h j (omega arith) ∙ ap (λ (i : ℕ). getD s i 0) n
 
--- ---- turns of loops
-
--- reading from the highest byte, at e, down: from o to o - 1
-pub le-down : (e o : ℕ) (s : List ℕ) → 0 < o → o ≤ e → le (e - (o - 1)) s (o - 1) ≡ getD s (o - 1) 0 + 256 * le (e - o) s o
-le-down e o s h k =
-    let ek : e - (o - 1) ≡ suc (e - o) = omega arith in
-    let eo : o - 1 + 1 ≡ o = omega arith in
-    rw (ek, le-suc, eo)
+-- ---- a turn of a loop
 
 -- writing n bytes of x from o up: one store, and then n - 1 bytes of x / 256 from o + 1
 pub put-up : (s : List ℕ) (o n x : ℕ) → 0 < n → o < length s → splice (set s o (x % 256)) (o + 1) (leBytes (n - 1) (x / 256)) ≡ splice s o (leBytes n x)
 put-up s o n x h k =
     let en : n ≡ suc (n - 1) = omega arith in
     sym (ap (λ (m : ℕ). splice s o (leBytes m x)) en ∙ ap (splice s o) (leBytes-suc (n - 1) x) ∙ splice-cons s o (x % 256) (leBytes (n - 1) (x / 256)) k)
-
-pub pow-down : (e o : ℕ) → 0 < o → o ≤ e → 2 ^ (8 * (e - (o - 1))) ≡ 256 * 2 ^ (8 * (e - o))
-pow-down e o h k = let ek : e - (o - 1) ≡ suc (e - o) = omega arith in rw ek (pow-step (e - o))
-
-pub le-none : (e : ℕ) (s : List ℕ) → 0 ≡ le (e - e) s e
-le-none e s = let z : e - e ≡ 0 = omega arith in rw (z, le-zero)
 
 -- ---- writers
 

@@ -11,10 +11,6 @@ use Rattle.rules.specs.Index.{Entry, liveType, deletedType, runType, dir
 use Rattle.rules.specs.Paths.{isLive, liveAt, lookup, pathsDiffer}
 
 -- ---- types
-pub directory-run : (t : ℕ) → t ≡ typeDirectory → runType t ≡ true
-unfolding runType directoryType fileType
-directory-run t e = rw e
-
 -- what holds of both kinds, live or deleted
 two-cases : (a b : ℕ) (P : ℕ → Type 0) → P a → P b → (t : ℕ) → (eqb t a || eqb t b) ≡ true → P t
 two-cases a b P x y t h = go (eqb t a) refl h
