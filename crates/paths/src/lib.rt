@@ -1,4 +1,4 @@
-// Paths of entries, compared with a path and looked up, by walks from entry to entry. What is looked at of the names is counted.
+// Paths of entries, compared with a path and looked up, by walks from slot to slot. What is looked at of the names is counted.
 
 use comparing::Compared;
 use comparing::apart;
@@ -12,7 +12,7 @@ use slots::Head;
 use slots::Spot;
 use units::Slot;
 ghost use mathlib.Core.Path.{_≡_};
-ghost use mathlib.Core.Bool.{true, false};
+ghost use mathlib.Core.Bool.{true};
 ghost use mathlib.Core.List.{List};
 ghost use Prim.Native.Nat.{ℕ};
 ghost use Rattle.rules.specs.Lists.{any, first};
