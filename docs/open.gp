@@ -1,11 +1,11 @@
 # Draws docs/open.svg from docs/bench.tsv: the time of an open against the entries, before and after. From the root: gnuplot docs/open.gp
-set terminal svg size 900,420 font "sans,12" background rgb "white"
+set terminal svg size 900,460 font "sans,12" background rgb "white"
 set output "docs/open.svg"
 set datafile separator "\t"
 set logscale xy
 set xlabel "entries"
 set ylabel "milliseconds"
-set key left top
+set key below maxcols 2
 set xtics (64, 256, 1024, 4094)
 set format y "%g"
 rows(volume, call, program) = sprintf("< awk -F'\t' '$1 == \"%s\" && $3 == \"%s\" && $4 == \"%s\" { print $2 \"\t\" $5 }' docs/bench.tsv", volume, call, program)
