@@ -49,7 +49,7 @@ int main(void) {
     static uint8_t volume[VOLUME_BYTES];
     static const uint8_t name[] = "TERM7";
     static const uint8_t reader[] = "A. Reader";
-    expect("format", sfs_format(volume, VOLUME_BYTES, 512, 2, name, sizeof name - 1, now()));
+    expect("format", sfs_format(volume, VOLUME_BYTES, SFS_VERSION_1_0, 512, 2, name, sizeof name - 1, now()));
     expect("directory", sfs_create_directory(volume, VOLUME_BYTES, session, sizeof session - 1, now()));
     who(volume);
     key_in(volume, reader, sizeof reader - 1);

@@ -60,7 +60,7 @@ static void look(int hour) {
 
 int main(void) {
     static const uint8_t name[] = "SQUARE", notices[] = "notices", closed[] = "Closed on Monday", open[] = "Open on Monday";
-    expect("format", sfs_format(volume, VOLUME_BYTES, 512, 2, name, sizeof name - 1, at(8)));
+    expect("format", sfs_format(volume, VOLUME_BYTES, SFS_VERSION_1_0, 512, 2, name, sizeof name - 1, at(8)));
     expect("directory", sfs_create_directory(volume, VOLUME_BYTES, notices, sizeof notices - 1, at(8)));
     put_up(9, closed, sizeof closed - 1);
     look(9);

@@ -23,7 +23,7 @@ static void listed(void) {
 
 int main(void) {
     static const uint8_t name[] = "TERM7", session[] = "session", verified[] = "session/verified", yes[] = "yes";
-    done("format", sfs_format(volume, BYTES, 512, 2, name, sizeof name - 1, 0));
+    done("format", sfs_format(volume, BYTES, SFS_VERSION_1_0, 512, 2, name, sizeof name - 1, 0));
     done("create session", sfs_create_directory(volume, BYTES, session, sizeof session - 1, 0x3C0000));
     done("create session/verified", sfs_create_file(volume, BYTES, verified, sizeof verified - 1, yes, 3, -1));
     listed();

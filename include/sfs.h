@@ -1,11 +1,16 @@
 /*
- * sfs.h: a proved store for Simple File System 1.0 volumes.
+ * sfs.h: a proved store for Simple File System volumes of editions 1.0 and 1.10.
  *
  * A volume is an image of 512 to 16,777,216 bytes that the caller lends for each call. Nothing is kept between calls, so
  * calls on different images may run at the same time; calls on one image may not, if one of them writes.
  *
- * Every call takes any image and any arguments, and judges the image before anything else. Its refusal number is 0 on
- * success. After a refusal every other number of the answer is 0, and no byte of the image or of a lent output has changed.
+ * Every call takes any image and any arguments and, format apart, judges the image before anything else. Its refusal
+ * number is 0 on success. After a refusal every other number of the answer is 0, and no byte of the image or of a lent
+ * output has changed.
+ *
+ * The magic decides a volume's edition, and all calls serve both. In 1.10 a delete frees slots and blocks at once, so that
+ * nothing can be restored; and every accepted call that writes, format apart, first rewrites deleted runs and stray slots,
+ * which other programs leave, as unused slots.
  *
  * Slices: a pointer and a length. The pointer of an empty slice may be NULL, any other may not. The slices of one call
  * lie apart in memory; no call can check that.
@@ -38,6 +43,10 @@ extern "C" {
 #define SFS_LISTING_ROOM 131072u  /* enough for the listing of any image */
 #define SFS_STACK_MAX 81920u      /* bytes of stack that a call takes at most; none takes any heap */
 
+/* Editions, by the version that a format gives. */
+#define SFS_VERSION_1_0 0x10u
+#define SFS_VERSION_1_10 0x1Au
+
 /* Kinds of an entry. */
 #define SFS_DIRECTORY 0x11u
 #define SFS_FILE 0x12u
@@ -47,29 +56,33 @@ enum sfs_refusal {
     SFS_OK = 0,
     SFS_IMAGE_LENGTH = 1,      /* the image is too short or too long */
     SFS_MAGIC = 2,             /* no super-block */
-    SFS_VERSION = 3,           /* version below 1.0 */
+    SFS_VERSION = 3,           /* a version that is not read: below 1.0, or other than 1.10 in a 1.10 volume */
     SFS_CHECKSUM = 4,          /* the super-block's checksum is wrong */
-    SFS_GEOMETRY = 5,          /* sizes that do not fit the image, or arguments of a format that do not */
-    SFS_INDEX = 6,             /* markers, runs, stray slots or names of the index */
+    SFS_GEOMETRY = 5,          /* sizes that do not fit the image; of a format: its sizes or its version */
+    SFS_INDEX = 6,             /* markers, runs or names of the index; in 1.0 stray slots, in 1.10 sums */
     SFS_REGIONS = 7,           /* a region out of bounds, or a block in two of them */
     SFS_PATHS = 8,             /* a path repeated, or without its directory */
-    SFS_READ_ONLY = 9,         /* version above 1.0: the volume may only be read */
+    SFS_READ_ONLY = 9,         /* a version above 1.0 in a 1.0 volume, which may only be read */
     SFS_NAME = 10,             /* a path or name argument that is not allowed */
-    SFS_NOT_FOUND = 11,        /* no live entry has the path; of a restore: no deleted one */
+    SFS_NOT_FOUND = 11,        /* no live entry has the path; of a restore: no deleted one, as always in 1.10 */
     SFS_EXISTS = 12,           /* a live entry has the path already */
     SFS_NO_DIRECTORY = 13,     /* the path's directory is not there */
     SFS_NOT_EMPTY = 14,        /* the directory has live entries below it */
-    SFS_NO_SLOTS = 15,         /* no room in the index */
+    SFS_NO_SLOTS = 15,         /* no slots that the entry may take, and the index cannot grow */
     SFS_NO_BLOCKS = 16,        /* no free run of blocks is long enough */
     SFS_NOT_A_FILE = 17,       /* a file was wanted */
     SFS_OUTPUT_TOO_SHORT = 18, /* the lent output is too short */
     SFS_AMBIGUOUS = 19         /* two or more deleted entries have the path */
 };
 
-/* The numbers of a volume. */
+/*
+ * The numbers of a volume. A 1.0 volume may store a version above 0x10, even 0x1A: how an end is meant goes by edition, not
+ * version.
+ */
 struct sfs_volume {
     uint32_t refusal;
-    uint32_t version;       /* 0x10 is 1.0 */
+    uint32_t version;       /* as it is stored */
+    uint32_t edition;       /* SFS_VERSION_1_0 or SFS_VERSION_1_10 */
     uint64_t total;         /* blocks */
     uint64_t reserved;      /* blocks, the super-block's own among them */
     uint64_t block_length;  /* bytes */
@@ -80,13 +93,13 @@ struct sfs_volume {
     uint64_t name_length;   /* bytes of the volume name */
 };
 
-/* The numbers of an entry. A directory has 0 for start, end and length. */
+/* The numbers of an entry. A directory has 0 for start, end and length, and so has a file without blocks. */
 struct sfs_entry {
     uint32_t refusal;
     uint32_t kind;    /* SFS_DIRECTORY or SFS_FILE */
     uint64_t slot;    /* its first slot in the index */
     uint64_t start;   /* first block of its region */
-    uint64_t end;     /* the block past it */
+    uint64_t end;     /* the block past it in edition 1.0, its last block in 1.10 */
     uint64_t length;  /* bytes */
     int64_t stamp;
 };
@@ -110,10 +123,11 @@ struct sfs_content {
 };
 
 /*
- * Makes the image an empty volume. bytes_per_block is 256, 512, 1024, 2048 or 4096; reserved blocks cover at least the
- * first 512 bytes. Writes the super-block's fields and the last 128 bytes, and nothing else. Refusals: 1, 5, 10.
+ * Makes the image an empty volume. version is SFS_VERSION_1_0 or SFS_VERSION_1_10, and any other is 5; bytes_per_block is
+ * 256, 512, 1024, 2048 or 4096; reserved blocks cover at least the first 512 bytes. Writes the super-block's fields and the
+ * last 128 bytes, and nothing else. Refusals: 1, 5, 10.
  */
-uint32_t sfs_format(uint8_t *image, size_t image_len, uint64_t bytes_per_block, uint64_t reserved,
+uint32_t sfs_format(uint8_t *image, size_t image_len, uint64_t version, uint64_t bytes_per_block, uint64_t reserved,
                     const uint8_t *name, size_t name_len, int64_t stamp);
 
 /* Gives the volume's numbers and puts its name at the start of out. Refusals: 1 to 8, 18. */
@@ -140,19 +154,23 @@ uint32_t sfs_create_file(uint8_t *image, size_t image_len, const uint8_t *path, 
 uint32_t sfs_create_directory(uint8_t *image, size_t image_len, const uint8_t *path, size_t path_len, int64_t stamp);
 
 /*
- * Deletes a file or an empty directory. Its slots and blocks stay held until a reclaim; before that, sfs_restore can
- * bring it back. Refusals: 1 to 11, 14.
+ * Deletes a file or an empty directory. In edition 1.0 its slots and blocks stay held until a reclaim; before that,
+ * sfs_restore can bring it back. In 1.10 they are free at once, and the stamp appears nowhere. Refusals: 1 to 11, 14.
  */
 uint32_t sfs_delete(uint8_t *image, size_t image_len, const uint8_t *path, size_t path_len, int64_t stamp);
 
 /*
  * Brings the deleted file or directory of a path back, with its bytes and with this stamp; a directory comes back without
  * what was below it. 11: no deleted entry has the path, live or not. 12: one has, and the path is live again. 13: its
- * directory is not live. 19: two or more deleted entries have the path, and none is chosen. Refusals: 1 to 13, 19.
+ * directory is not live. 19: two or more deleted entries have the path, and none is chosen. In edition 1.10 no deleted entry
+ * is kept, so that a volume that opens gets 10 or 11. Refusals: 1 to 13, 19.
  */
 uint32_t sfs_restore(uint8_t *image, size_t image_len, const uint8_t *path, size_t path_len, int64_t stamp);
 
-/* Frees what deleted entries hold; they cannot be restored any more. Refusals: 1 to 9. */
+/*
+ * Frees what deleted entries hold, which cannot be restored any more, and trims the data area to the regions that are left;
+ * in edition 1.10 it only trims. Refusals: 1 to 9.
+ */
 uint32_t sfs_reclaim(uint8_t *image, size_t image_len, int64_t stamp);
 
 /*

@@ -1,4 +1,7 @@
-/* How much stack each call takes, on a full volume whose entries are out of order: the call runs in a thread whose stack was painted. */
+/*
+ * How much stack each call takes, on a full volume of either edition whose entries are out of order: the call runs in a thread
+ * whose stack was painted.
+ */
 #define _XOPEN_SOURCE 700
 #include <pthread.h>
 #include <stdio.h>
@@ -14,6 +17,7 @@
 static size_t idle;
 static uint8_t image[IMAGE], full[IMAGE], less[IMAGE], out[512];
 static const uint8_t last[] = "entry 0000", gone[] = "gone";
+static uint32_t edition;
 
 static uint32_t nothing(void) { return 0; }
 static uint32_t open_it(void) { return sfs_open(image, IMAGE, out, sizeof out).refusal; }
@@ -23,9 +27,13 @@ static uint32_t read_it(void) { return sfs_read(image, IMAGE, last, 10, out, siz
 static uint32_t create_it(void) { return sfs_create_file(image, IMAGE, (const uint8_t *)"new", 3, out, sizeof out, 1); }
 static uint32_t make_it(void) { return sfs_create_directory(image, IMAGE, (const uint8_t *)"new", 3, 1); }
 static uint32_t delete_it(void) { return sfs_delete(image, IMAGE, last, 10, 1); }
-static uint32_t restore_it(void) { return sfs_restore(image, IMAGE, gone, 4, 1); }
+/* In 1.10 nothing comes back. */
+static uint32_t restore_it(void) {
+    uint32_t refusal = sfs_restore(image, IMAGE, gone, 4, 1);
+    return refusal == SFS_NOT_FOUND && edition == SFS_VERSION_1_10 ? SFS_OK : refusal;
+}
 static uint32_t reclaim_it(void) { return sfs_reclaim(image, IMAGE, 1); }
-static uint32_t format_it(void) { return sfs_format(image, IMAGE, 512, 1, last, 4, 1); }
+static uint32_t format_it(void) { return sfs_format(image, IMAGE, edition, 512, 1, last, 4, 1); }
 static uint32_t listing_it(void) {
     static uint8_t text[SFS_LISTING_ROOM];
     return sfs_listing(image, SFS_LISTING_IMAGE_MAX, text, sizeof text) == 0;
@@ -53,41 +61,63 @@ static size_t stack_of(uint32_t (*call)(void), uint32_t *refusal) {
     return STACK - clean;
 }
 
+/* A deleted file. A delete in 1.10 leaves none, so it is made as other programs make one: the type, and the sum with it. */
+static int drop(uint8_t *volume) {
+    if (edition == SFS_VERSION_1_0) return sfs_delete(volume, IMAGE, gone, 4, 1) != 0;
+    struct sfs_entry found = sfs_find(volume, IMAGE, gone, 4);
+    uint8_t *slot = volume + IMAGE - sfs_open(volume, IMAGE, out, sizeof out).index + found.slot * SFS_SLOT_BYTES;
+    slot[0] = 0x1A;
+    slot[1] = (uint8_t)(slot[1] - 0x1A + SFS_FILE);
+    return found.refusal != 0 || sfs_find(volume, IMAGE, gone, 4).refusal != SFS_NOT_FOUND;
+}
+
 /* Files of a byte in an order that is none, and a deleted one among them. */
 static int fill(uint8_t *volume, unsigned entries) {
     uint8_t name[16];
-    if (sfs_format(volume, IMAGE, 512, 1, last, 5, 1)) return 1;
+    if (sfs_format(volume, IMAGE, edition, 512, 1, last, 5, 1)) return 1;
     for (unsigned place = 0; place < entries; place++) {
         unsigned number = place * 1597u % 4093u;
         if (place == 7) memcpy(name, "gone      ", 11);
         else snprintf((char *)name, sizeof name, "entry %04u", place == 4093 ? 9999u : number);
         if (sfs_create_file(volume, IMAGE, name, place == 7 ? 4 : 10, name, 1, 1)) return 1;
     }
-    return sfs_delete(volume, IMAGE, gone, 4, 1) != 0;
+    return drop(volume);
 }
 
-int main(void) {
+/* All calls on volumes of the edition: how many failed. */
+static unsigned measured(const char *name, unsigned *count) {
     static const struct { const char *name; uint32_t (*call)(void); const uint8_t *volume; } calls[] = {
         {"open", open_it, full}, {"find", find_it, full}, {"list", list_it, full}, {"read", read_it, full},
         {"create_file", create_it, less}, {"create_directory", make_it, less}, {"delete", delete_it, full},
         {"restore", restore_it, full}, {"reclaim", reclaim_it, full}, {"format", format_it, full}, {"listing", listing_it, full},
     };
     uint32_t refusal;
-    unsigned failed = 0, count = sizeof calls / sizeof *calls;
+    unsigned failed = 0;
     if (fill(full, ENTRIES) || fill(less, ENTRIES - 1)) {
         fprintf(stderr, "the volumes were not made\n");
-        return 2;
+        exit(2);
     }
-    idle = stack_of(nothing, &refusal);
-    for (unsigned i = 0; i < count; i++) {
+    for (unsigned i = 0; i < sizeof calls / sizeof *calls; i++) {
         memcpy(image, calls[i].volume, IMAGE);
         size_t bytes = stack_of(calls[i].call, &refusal) - idle;
-        printf("%s: %zu bytes of stack\n", calls[i].name, bytes);
+        printf("%s, %s: %zu bytes of stack\n", name, calls[i].name, bytes);
         if (refusal || bytes > SFS_STACK_MAX) {
-            printf("%s: refusal %u, or more than %u bytes\n", calls[i].name, refusal, SFS_STACK_MAX);
+            printf("%s, %s: refusal %u, or more than %u bytes\n", name, calls[i].name, refusal, SFS_STACK_MAX);
             failed++;
         }
+        ++*count;
     }
+    return failed;
+}
+
+int main(void) {
+    uint32_t refusal;
+    unsigned failed = 0, count = 0;
+    idle = stack_of(nothing, &refusal);
+    edition = SFS_VERSION_1_0;
+    failed += measured("1.0", &count);
+    edition = SFS_VERSION_1_10;
+    failed += measured("1.10", &count);
     printf("%u passed, %u failed\n", count - failed, failed);
     return failed != 0;
 }

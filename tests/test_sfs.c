@@ -15,15 +15,16 @@
 
 FIELD(sfs_volume, refusal, 0, uint32_t);
 FIELD(sfs_volume, version, 4, uint32_t);
-FIELD(sfs_volume, total, 8, uint64_t);
-FIELD(sfs_volume, reserved, 16, uint64_t);
-FIELD(sfs_volume, block_length, 24, uint64_t);
-FIELD(sfs_volume, data, 32, uint64_t);
-FIELD(sfs_volume, index, 40, uint64_t);
-FIELD(sfs_volume, stamp, 48, int64_t);
-FIELD(sfs_volume, volume_stamp, 56, int64_t);
-FIELD(sfs_volume, name_length, 64, uint64_t);
-SIZE(sfs_volume, 72);
+FIELD(sfs_volume, edition, 8, uint32_t);
+FIELD(sfs_volume, total, 16, uint64_t);
+FIELD(sfs_volume, reserved, 24, uint64_t);
+FIELD(sfs_volume, block_length, 32, uint64_t);
+FIELD(sfs_volume, data, 40, uint64_t);
+FIELD(sfs_volume, index, 48, uint64_t);
+FIELD(sfs_volume, stamp, 56, int64_t);
+FIELD(sfs_volume, volume_stamp, 64, int64_t);
+FIELD(sfs_volume, name_length, 72, uint64_t);
+SIZE(sfs_volume, 80);
 
 FIELD(sfs_entry, refusal, 0, uint32_t);
 FIELD(sfs_entry, kind, 4, uint32_t);
@@ -68,6 +69,8 @@ NUMBER(SFS_NO_BLOCKS, 16);
 NUMBER(SFS_NOT_A_FILE, 17);
 NUMBER(SFS_OUTPUT_TOO_SHORT, 18);
 NUMBER(SFS_AMBIGUOUS, 19);
+NUMBER(SFS_VERSION_1_0, 0x10);
+NUMBER(SFS_VERSION_1_10, 0x1A);
 NUMBER(SFS_DIRECTORY, 0x11);
 NUMBER(SFS_FILE, 0x12);
 NUMBER(SFS_IMAGE_MIN, 512);
@@ -95,9 +98,12 @@ static int passed, failed;
 /* A string literal as a slice. */
 #define B(text) (const uint8_t *)(text), sizeof(text) - 1
 
-/* Answers compared with the wanted ones, in every field; the first three structs have no padding. */
+/* Answers compared with the wanted ones, in every field; those of find and list have no padding. */
 static int volume_is(struct sfs_volume a, struct sfs_volume wanted) {
-    return memcmp(&a, &wanted, sizeof a) == 0;
+    return a.refusal == wanted.refusal && a.version == wanted.version && a.edition == wanted.edition && a.total == wanted.total
+        && a.reserved == wanted.reserved && a.block_length == wanted.block_length && a.data == wanted.data
+        && a.index == wanted.index && a.stamp == wanted.stamp && a.volume_stamp == wanted.volume_stamp
+        && a.name_length == wanted.name_length;
 }
 
 static int entry_is(struct sfs_entry a, struct sfs_entry wanted) {
@@ -144,7 +150,7 @@ static void empty_slices(void) {
     CHECK(zero_entry(sfs_find(NULL, 0, NULL, 0), SFS_IMAGE_LENGTH));
     CHECK(zero_listed(sfs_list(NULL, 0, 0, out, 4), SFS_IMAGE_LENGTH));
     CHECK(zero_content(sfs_read(NULL, 0, B("a"), out, 4), SFS_IMAGE_LENGTH));
-    CHECK(sfs_format(NULL, 0, 512, 2, NULL, 0, 0) == SFS_IMAGE_LENGTH);
+    CHECK(sfs_format(NULL, 0, SFS_VERSION_1_0, 512, 2, NULL, 0, 0) == SFS_IMAGE_LENGTH);
     CHECK(sfs_create_file(NULL, 0, B("a"), NULL, 0, 0) == SFS_IMAGE_LENGTH);
     CHECK(sfs_create_directory(NULL, 0, B("a"), 0) == SFS_IMAGE_LENGTH);
     CHECK(sfs_delete(NULL, 0, B("a"), 0) == SFS_IMAGE_LENGTH);
@@ -154,17 +160,24 @@ static void empty_slices(void) {
     CHECK(memcmp(out, "\1\2\3\4", 4) == 0);
 }
 
+/* Versions that no format takes; of the last three the low bytes are those of an edition. */
+static const uint64_t no_versions[] = {0, 0x0F, 0x11, 0x19, 0x1B, 0xFF, 0x110, 0x10000001A, 0x8000000000000010};
+
 static void formats_refused(void) {
     uint8_t *image = new_image(65536), *before = new_image(65536);
     memset(image, 0x5A, 65536);
     memset(before, 0x5A, 65536);
-    CHECK(sfs_format(image, 511, 512, 2, B("A"), 0) == SFS_IMAGE_LENGTH);
-    CHECK(sfs_format(image, 65536, 500, 2, B("A"), 0) == SFS_GEOMETRY);
-    CHECK(sfs_format(image, 65536, 0, 2, B("A"), 0) == SFS_GEOMETRY);
-    CHECK(sfs_format(image, 65536, 8192, 2, B("A"), 0) == SFS_GEOMETRY);
-    CHECK(sfs_format(image, 65536, 512, UINT64_MAX, B("A"), 0) == SFS_GEOMETRY);
-    CHECK(sfs_format(image, 65536, 256, 1, B("A"), 0) == SFS_GEOMETRY);
-    CHECK(sfs_format(image, 65536, 512, 2, B("a/b"), 0) == SFS_NAME);
+    CHECK(sfs_format(image, 511, SFS_VERSION_1_0, 512, 2, B("A"), 0) == SFS_IMAGE_LENGTH);
+    CHECK(sfs_format(image, 65536, SFS_VERSION_1_0, 500, 2, B("A"), 0) == SFS_GEOMETRY);
+    CHECK(sfs_format(image, 65536, SFS_VERSION_1_0, 0, 2, B("A"), 0) == SFS_GEOMETRY);
+    CHECK(sfs_format(image, 65536, SFS_VERSION_1_0, 8192, 2, B("A"), 0) == SFS_GEOMETRY);
+    CHECK(sfs_format(image, 65536, SFS_VERSION_1_0, 512, UINT64_MAX, B("A"), 0) == SFS_GEOMETRY);
+    CHECK(sfs_format(image, 65536, SFS_VERSION_1_0, 256, 1, B("A"), 0) == SFS_GEOMETRY);
+    CHECK(sfs_format(image, 65536, SFS_VERSION_1_0, 512, 2, B("a/b"), 0) == SFS_NAME);
+    CHECK(sfs_format(image, 65536, SFS_VERSION_1_10, 512, 2, B("a/b"), 0) == SFS_NAME);
+    for (size_t i = 0; i < sizeof no_versions / sizeof no_versions[0]; i++)
+        CHECK(sfs_format(image, 65536, no_versions[i], 512, 2, B("a/b"), 0) == SFS_GEOMETRY);
+    CHECK(sfs_format(image, 511, 0x11, 512, 2, B("A"), 0) == SFS_IMAGE_LENGTH);
     CHECK(memcmp(image, before, 65536) == 0);
     free(image);
     free(before);
@@ -174,12 +187,12 @@ static void formats(void) {
     uint8_t *image = new_image(65536), *before = new_image(65536);
     memset(image, 0x5A, 65536);
     memset(before, 0x5A, 65536);
-    CHECK(sfs_format(image, 65536, 512, 2, B("TERM7"), -5) == SFS_OK);
+    CHECK(sfs_format(image, 65536, SFS_VERSION_1_0, 512, 2, B("TERM7"), -5) == SFS_OK);
     CHECK(memcmp(image, before, 0x194) == 0);
     CHECK(memcmp(image + 0x1BE, before + 0x1BE, 65536 - 128 - 0x1BE) == 0);
     CHECK(volume_is(sfs_open(image, 65536, before, 5),
-                    (struct sfs_volume){.version = 0x10, .total = 128, .reserved = 2, .block_length = 512, .index = 128,
-                                        .stamp = -5, .volume_stamp = -5, .name_length = 5}));
+                    (struct sfs_volume){.version = 0x10, .edition = 0x10, .total = 128, .reserved = 2, .block_length = 512,
+                                        .index = 128, .stamp = -5, .volume_stamp = -5, .name_length = 5}));
     CHECK(memcmp(before, "TERM7\x5A", 6) == 0);
     CHECK(zero_volume(sfs_open(image, 65536, before, 4), SFS_OUTPUT_TOO_SHORT));
     CHECK(zero_volume(sfs_open(image, 65535, before, 65536), SFS_GEOMETRY));
@@ -198,49 +211,55 @@ static void formats(void) {
  */
 enum { FORMATTED = -1001, MADE = 2002, FIRST = -3003, SECOND = 4004, DELETED = -5005, RECLAIMED = -6006, LATER = 7007 };
 
-static const struct sfs_volume stamped_volume = {.version = 0x10, .total = 128, .reserved = 3, .block_length = 512, .data = 7,
-    .index = 320, .stamp = SECOND, .volume_stamp = FORMATTED, .name_length = 6};
+static struct sfs_volume stamped_volume(uint32_t edition) {
+    return (struct sfs_volume){.version = edition, .edition = edition, .total = 128, .reserved = 3, .block_length = 512,
+                               .data = 7, .index = 320, .stamp = SECOND, .volume_stamp = FORMATTED, .name_length = 6};
+}
 
-static uint8_t *stamped(void) {
+static uint8_t *stamped(uint32_t edition) {
     uint8_t *image = new_image(65536), bytes[2100];
     memset(bytes, 0xA5, sizeof bytes);
-    CHECK(sfs_format(image, 65536, 512, 3, B("VOLUME"), FORMATTED) == SFS_OK);
+    CHECK(sfs_format(image, 65536, edition, 512, 3, B("VOLUME"), FORMATTED) == SFS_OK);
     CHECK(sfs_create_directory(image, 65536, B("d"), MADE) == SFS_OK);
     CHECK(sfs_create_file(image, 65536, B("d/first"), bytes, 2100, FIRST) == SFS_OK);
     CHECK(sfs_create_file(image, 65536, B("d/the-second"), bytes, 1000, SECOND) == SFS_OK);
     return image;
 }
 
-static void every_field(void) {
-    uint8_t *image = stamped(), *out = new_image(2101);
-    CHECK(volume_is(sfs_open(image, 65536, out, 6), stamped_volume));
+static void every_field(uint32_t edition) {
+    uint8_t *image = stamped(edition), *out = new_image(2101);
+    uint64_t past = edition == SFS_VERSION_1_0; /* an end is the block past the region, or its last */
+    CHECK(volume_is(sfs_open(image, 65536, out, 6), stamped_volume(edition)));
     CHECK(entry_is(sfs_find(image, 65536, B("d/first")),
-                   (struct sfs_entry){.kind = SFS_FILE, .slot = 2, .start = 3, .end = 8, .length = 2100, .stamp = FIRST}));
+                   (struct sfs_entry){.kind = SFS_FILE, .slot = 2, .start = 3, .end = 7 + past, .length = 2100, .stamp = FIRST}));
     CHECK(entry_is(sfs_find(image, 65536, B("d/the-second")),
-                   (struct sfs_entry){.kind = SFS_FILE, .slot = 1, .start = 8, .end = 10, .length = 1000, .stamp = SECOND}));
+                   (struct sfs_entry){.kind = SFS_FILE, .slot = 1, .start = 8, .end = 9 + past, .length = 1000, .stamp = SECOND}));
     CHECK(entry_is(sfs_find(image, 65536, B("d")), (struct sfs_entry){.kind = SFS_DIRECTORY, .slot = 3, .stamp = MADE}));
     CHECK(listed_is(sfs_list(image, 65536, 0, out, 12),
-                    (struct sfs_listed){.kind = SFS_FILE, .slot = 1, .start = 8, .end = 10, .length = 1000, .stamp = SECOND,
-                                        .path_length = 12}));
+                    (struct sfs_listed){.kind = SFS_FILE, .slot = 1, .start = 8, .end = 9 + past, .length = 1000,
+                                        .stamp = SECOND, .path_length = 12}));
     CHECK(listed_is(sfs_list(image, 65536, 2, out, 12),
-                    (struct sfs_listed){.kind = SFS_FILE, .slot = 2, .start = 3, .end = 8, .length = 2100, .stamp = FIRST,
-                                        .path_length = 7}));
+                    (struct sfs_listed){.kind = SFS_FILE, .slot = 2, .start = 3, .end = 7 + past, .length = 2100,
+                                        .stamp = FIRST, .path_length = 7}));
     CHECK(listed_is(sfs_list(image, 65536, 3, out, 12),
                     (struct sfs_listed){.kind = SFS_DIRECTORY, .slot = 3, .stamp = MADE, .path_length = 1}));
     CHECK(content_is(sfs_read(image, 65536, B("d/first"), out, 2101), (struct sfs_content){.length = 2100}));
     CHECK(out[0] == 0xA5 && out[2099] == 0xA5 && out[2100] == 0);
+    CHECK(sfs_create_file(image, 65536, B("d/empty"), NULL, 0, LATER) == SFS_OK);
+    CHECK(entry_is(sfs_find(image, 65536, B("d/empty")), (struct sfs_entry){.kind = SFS_FILE, .slot = 1, .stamp = LATER}));
+    CHECK(content_is(sfs_read(image, 65536, B("d/empty"), NULL, 0), (struct sfs_content){.length = 0}));
     free(image);
     free(out);
 }
 
 /* A delete changes the type and the stamp of its entry, nine bytes; a reclaim gives its own stamp where a size changes. */
 static void stamps_of_writes(void) {
-    uint8_t *image = stamped(), *before = stamped(), *slot = before + 65536 - 320 + 64, out[6];
+    uint8_t *image = stamped(SFS_VERSION_1_0), *before = stamped(SFS_VERSION_1_0), *slot = before + 65536 - 320 + 64, out[6];
     CHECK(sfs_delete(image, 65536, B("d/the-second"), DELETED) == SFS_OK);
     memcpy(slot, "\x1A\0\x73\xEC\xFF\xFF\xFF\xFF\xFF\xFF", 10);
     CHECK(memcmp(image, before, 65536) == 0);
-    CHECK(volume_is(sfs_open(image, 65536, out, 6), stamped_volume));
-    struct sfs_volume trimmed = stamped_volume;
+    CHECK(volume_is(sfs_open(image, 65536, out, 6), stamped_volume(SFS_VERSION_1_0)));
+    struct sfs_volume trimmed = stamped_volume(SFS_VERSION_1_0);
     trimmed.data = 5;
     trimmed.stamp = RECLAIMED;
     CHECK(sfs_reclaim(image, 65536, RECLAIMED) == SFS_OK);
@@ -257,7 +276,7 @@ static void stamps_of_writes(void) {
 /* Terminal 7's volume with the directory session and the file session/verified. */
 static uint8_t *session(void) {
     uint8_t *image = new_image(65536);
-    CHECK(sfs_format(image, 65536, 512, 2, B("TERM7"), 0) == SFS_OK);
+    CHECK(sfs_format(image, 65536, SFS_VERSION_1_0, 512, 2, B("TERM7"), 0) == SFS_OK);
     CHECK(sfs_create_directory(image, 65536, B("session"), 0x3C0000) == SFS_OK);
     CHECK(sfs_create_file(image, 65536, B("session/verified"), B("yes"), -1) == SFS_OK);
     return image;
@@ -304,7 +323,7 @@ static void deletes(void) {
 
 /* A delete, then a restore: with the old stamp the image is what it was, with another one only the entry's stamp is new. */
 static void restores(void) {
-    uint8_t *image = stamped(), *before = stamped(), *slot = before + 65536 - 320 + 64, out[16];
+    uint8_t *image = stamped(SFS_VERSION_1_0), *before = stamped(SFS_VERSION_1_0), *slot = before + 65536 - 320 + 64, out[6];
     struct sfs_entry found = sfs_find(image, 65536, B("d/the-second"));
     CHECK(sfs_delete(image, 65536, B("d/the-second"), DELETED) == SFS_OK);
     CHECK(sfs_restore(image, 65536, B("d/the-second"), found.stamp) == SFS_OK);
@@ -313,7 +332,7 @@ static void restores(void) {
     CHECK(sfs_restore(image, 65536, B("d/the-second"), -2) == SFS_OK);
     memcpy(slot, "\x12\0\xFE\xFF\xFF\xFF\xFF\xFF\xFF\xFF", 10);
     CHECK(memcmp(image, before, 65536) == 0);
-    CHECK(volume_is(sfs_open(image, 65536, out, 6), stamped_volume));
+    CHECK(volume_is(sfs_open(image, 65536, out, 6), stamped_volume(SFS_VERSION_1_0)));
     found.stamp = -2;
     CHECK(entry_is(sfs_find(image, 65536, B("d/the-second")), found));
     CHECK(sfs_reclaim(image, 65536, RECLAIMED) == SFS_OK); /* no block of it is given back */
@@ -378,7 +397,7 @@ static void restores_refused(void) {
 static void full_volume(void) {
     uint8_t *image = new_image(65536), *bytes = new_image(64001);
     char path[] = "empty0";
-    CHECK(sfs_format(image, 65536, 512, 2, NULL, 0, 0) == SFS_OK);
+    CHECK(sfs_format(image, 65536, SFS_VERSION_1_0, 512, 2, NULL, 0, 0) == SFS_OK);
     CHECK(sfs_create_file(image, 65536, B("big"), bytes, 64001, 0) == SFS_NO_BLOCKS);
     CHECK(sfs_create_file(image, 65536, B("big"), bytes, SIZE_MAX, 0) == SFS_NO_BLOCKS); /* rounded up without a sum */
     CHECK(sfs_create_file(image, 65536, B("big"), bytes, 64000, 0) == SFS_OK);
@@ -410,7 +429,7 @@ static void listing(void) {
     CHECK(text_is(NULL, 0, "refused 1\n"));
     CHECK(text_is(image, 65537, "refused 1\n"));
     CHECK(text_is(image, 65536, "refused 2\n"));
-    CHECK(sfs_format(image, 65536, 512, 2, B("TERM7"), 0) == SFS_OK);
+    CHECK(sfs_format(image, 65536, SFS_VERSION_1_0, 512, 2, B("TERM7"), 0) == SFS_OK);
     CHECK(text_is(image, 65536, "TERM7\nlive 0 held 0\n"));
     CHECK(sfs_create_directory(image, 65536, B("session"), 0x3C0000) == SFS_OK);
     CHECK(sfs_create_file(image, 65536, B("session/verified"), B("yes"), -1) == SFS_OK);
@@ -424,7 +443,7 @@ static void listing(void) {
     CHECK(sfs_listing(image, 65536, out, sizeof out) == 0 && out[0] == 0);
     image[0x1BD] ^= 1;
     CHECK(text_is(image, 65536, "refused 4\n"));
-    CHECK(sfs_format(image, 65536, 256, 2, NULL, 0, 0) == SFS_OK);
+    CHECK(sfs_format(image, 65536, SFS_VERSION_1_0, 256, 2, NULL, 0, 0) == SFS_OK);
     CHECK(sfs_create_directory(image, 65536, B("a"), INT64_MIN) == SFS_OK);
     CHECK(sfs_create_directory(image, 65536, B("b"), INT64_MAX) == SFS_OK);
     CHECK(text_is(image, 65536,
@@ -460,13 +479,13 @@ static const struct { const char *name; size_t length; } no_names[] = {
 
 static void names_refused(void) {
     uint8_t *image = new_image(65536);
-    CHECK(sfs_format(image, 65536, 512, 2, NULL, 0, 0) == SFS_OK);
+    CHECK(sfs_format(image, 65536, SFS_VERSION_1_0, 512, 2, NULL, 0, 0) == SFS_OK);
     for (size_t i = 0; i < sizeof no_names / sizeof no_names[0]; i++) {
         const uint8_t *name = (const uint8_t *)no_names[i].name;
         size_t n = no_names[i].length;
         CHECK(zero_entry(sfs_find(image, 65536, name, n), SFS_NAME));
         CHECK(sfs_create_file(image, 65536, name, n, NULL, 0, 0) == SFS_NAME);
-        CHECK(sfs_format(image, 65536, 512, 2, name, n, 0) == SFS_NAME);
+        CHECK(sfs_format(image, 65536, SFS_VERSION_1_0, 512, 2, name, n, 0) == SFS_NAME);
         memcpy(image + 65536 - 64 + 12, name, n); /* as the volume's stored name */
         CHECK(zero_volume(sfs_open(image, 65536, NULL, 0), SFS_INDEX));
         memset(image + 65536 - 64 + 12, 0, n);
@@ -476,7 +495,7 @@ static void names_refused(void) {
 
 static void names_in_utf8(void) {
     uint8_t *image = new_image(65536), out[64] = {0};
-    CHECK(sfs_format(image, 65536, 512, 2, B("À la page"), 0) == SFS_OK);
+    CHECK(sfs_format(image, 65536, SFS_VERSION_1_0, 512, 2, B("À la page"), 0) == SFS_OK);
     CHECK(sfs_open(image, 65536, out, 10).name_length == 10 && memcmp(out, "\xC3\x80 la page", 10) == 0);
     CHECK(sfs_create_directory(image, 65536, B("prêts"), 0) == SFS_OK);
     CHECK(sfs_create_file(image, 65536, B("prêts/¡日本語 𣎴"), B("yes"), 0) == SFS_OK);
@@ -495,7 +514,7 @@ static void names_in_utf8(void) {
 static void names_over_slots(void) {
     uint8_t *image = new_image(65536);
     size_t second = 65536 - 128;
-    CHECK(sfs_format(image, 65536, 512, 2, NULL, 0, 0) == SFS_OK);
+    CHECK(sfs_format(image, 65536, SFS_VERSION_1_0, 512, 2, NULL, 0, 0) == SFS_OK);
     CHECK(sfs_create_file(image, 65536, B("prêts de la branche au marché"), NULL, 0, 0) == SFS_OK);
     CHECK(image[second - 1] == 0xC3 && image[second] == 0xA9);
     CHECK(sfs_find(image, 65536, B("prêts de la branche au marché")).refusal == SFS_OK);
@@ -509,11 +528,316 @@ static void names_over_slots(void) {
     free(image);
 }
 
+/* ---- edition 1.10 */
+
+/* Slots as a call writes them. */
+static const uint8_t unused[64] = {0x10, 0xF0}, marker[64] = {0x02, 0xFE};
+
+static uint8_t sum_of(const uint8_t *bytes, size_t n) {
+    unsigned sum = 0;
+    for (size_t i = 0; i < n; i++)
+        sum += bytes[i];
+    return (uint8_t)sum;
+}
+
+/* A byte more or less; sums are modulo 256. */
+static void add(uint8_t *byte, int n) {
+    *byte = (uint8_t)(*byte + n);
+}
+
+static void newer_formats(void) {
+    uint8_t *image = new_image(65536), *before = new_image(65536);
+    memset(image, 0x5A, 65536);
+    memset(before, 0x5A, 65536);
+    CHECK(sfs_format(image, 65536, SFS_VERSION_1_10, 512, 2, B("STICK"), -5) == SFS_OK);
+    CHECK(memcmp(image, before, 0x18E) == 0);
+    CHECK(memcmp(image + 0x1B8, before + 0x1B8, 65536 - 128 - 0x1B8) == 0);
+    CHECK(memcmp(image + 0x1A6, "SFS\x1A", 4) == 0 && sum_of(image + 0x1A6, 18) == 0);
+    CHECK(memcmp(image + 65536 - 128, marker, 64) == 0);
+    CHECK(image[65536 - 64] == 0x01 && sum_of(image + 65536 - 64, 64) == 0);
+    CHECK(volume_is(sfs_open(image, 65536, before, 5),
+                    (struct sfs_volume){.version = 0x1A, .edition = 0x1A, .total = 128, .reserved = 2, .block_length = 512,
+                                        .index = 128, .stamp = -5, .volume_stamp = -5, .name_length = 5}));
+    CHECK(memcmp(before, "STICK\x5A", 6) == 0);
+    CHECK(zero_volume(sfs_open(image, 65536, before, 4), SFS_OUTPUT_TOO_SHORT));
+    image[0x1A6] ^= 1;
+    CHECK(zero_volume(sfs_open(image, 65536, before, 65536), SFS_MAGIC));
+    image[0x1A6] ^= 1;
+    image[0x1B7] ^= 1;
+    CHECK(zero_volume(sfs_open(image, 65536, before, 65536), SFS_CHECKSUM));
+    image[0x1B7] ^= 1;
+    add(image + 0x1A9, 1); /* a later version is not read here, and the checksum is right */
+    add(image + 0x1B7, -1);
+    CHECK(zero_volume(sfs_open(image, 65536, before, 65536), SFS_VERSION));
+    add(image + 0x1A9, -11); /* nor is 1.0 */
+    add(image + 0x1B7, 11);
+    CHECK(image[0x1A9] == 0x10 && zero_volume(sfs_open(image, 65536, before, 65536), SFS_VERSION));
+    free(image);
+    free(before);
+}
+
+/* Magic in both places: that of 1.0 decides, and what then fails is not tried as the other. A format leaves one alone. */
+static void both_magics(void) {
+    uint8_t *image = stamped(SFS_VERSION_1_0);
+    memcpy(image + 0x1A6, "SFS", 3); /* in the index size */
+    CHECK(zero_volume(sfs_open(image, 65536, NULL, 0), SFS_GEOMETRY));
+    CHECK(sfs_format(image, 65536, SFS_VERSION_1_10, 512, 2, NULL, 0, 0) == SFS_OK);
+    CHECK(sfs_open(image, 65536, NULL, 0).edition == SFS_VERSION_1_10);
+    memcpy(image + 0x1AC, "SFS", 3); /* in the number of blocks, and so is the version */
+    CHECK(zero_volume(sfs_open(image, 65536, NULL, 0), SFS_VERSION));
+    CHECK(sfs_format(image, 65536, SFS_VERSION_1_0, 512, 2, NULL, 0, 0) == SFS_OK);
+    CHECK(sfs_open(image, 65536, NULL, 0).edition == SFS_VERSION_1_0);
+    free(image);
+}
+
+/* 0x1A in the 1.0 place is a later version than 1.0: it is read as edition 1.0, and calls that write answer 9. */
+static void later_version(void) {
+    uint8_t *image = stamped(SFS_VERSION_1_0), *before = new_image(65536), out[6];
+    struct sfs_volume later = stamped_volume(SFS_VERSION_1_0);
+    later.version = 0x1A;
+    add(image + 0x1AF, 10);
+    add(image + 0x1BD, -10);
+    memcpy(before, image, 65536);
+    CHECK(volume_is(sfs_open(image, 65536, out, 6), later));
+    CHECK(sfs_find(image, 65536, B("d/first")).end == 8);
+    CHECK(sfs_create_file(image, 65536, B("new"), NULL, 0, LATER) == SFS_READ_ONLY);
+    CHECK(sfs_create_directory(image, 65536, B("d"), LATER) == SFS_READ_ONLY);
+    CHECK(sfs_delete(image, 65536, B("d/first"), LATER) == SFS_READ_ONLY);
+    CHECK(sfs_restore(image, 65536, B("d/first"), LATER) == SFS_READ_ONLY);
+    CHECK(sfs_reclaim(image, 65536, LATER) == SFS_READ_ONLY);
+    CHECK(memcmp(image, before, 65536) == 0);
+    free(image);
+    free(before);
+}
+
+/* A delete makes the run unused slots and changes nothing else: the same create then gives the image from before. */
+static void newer_deletes(void) {
+    uint8_t *image = stamped(SFS_VERSION_1_10), *before = stamped(SFS_VERSION_1_10), *slot = before + 65536 - 320 + 64, out[6];
+    uint8_t *whole = stamped(SFS_VERSION_1_10), bytes[1000];
+    memset(bytes, 0xA5, sizeof bytes);
+    CHECK(sfs_delete(image, 65536, B("d"), DELETED) == SFS_NOT_EMPTY);
+    CHECK(sfs_delete(image, 65536, B("d/the-second"), DELETED) == SFS_OK);
+    memcpy(slot, unused, 64);
+    CHECK(memcmp(image, before, 65536) == 0);
+    CHECK(volume_is(sfs_open(image, 65536, out, 6), stamped_volume(SFS_VERSION_1_10)));
+    CHECK(zero_entry(sfs_find(image, 65536, B("d/the-second")), SFS_NOT_FOUND));
+    CHECK(sfs_delete(image, 65536, B("d/the-second"), DELETED) == SFS_NOT_FOUND);
+    CHECK(refused_restore(image, B("d/the-second")) == SFS_NOT_FOUND);
+    CHECK(refused_restore(image, B("d/first")) == SFS_NOT_FOUND); /* live */
+    CHECK(refused_restore(image, B("e/first")) == SFS_NOT_FOUND);
+    CHECK(refused_restore(image, B("d//first")) == SFS_NAME);
+    CHECK(sfs_create_file(image, 65536, B("d/the-second"), bytes, 1000, SECOND) == SFS_OK);
+    CHECK(memcmp(image, whole, 65536) == 0);
+    free(image);
+    free(before);
+    free(whole);
+}
+
+/* A reclaim trims the data area, with its stamp where the size changes; the index keeps its size. */
+static void newer_reclaims(void) {
+    uint8_t *image = stamped(SFS_VERSION_1_10), out[6];
+    struct sfs_volume trimmed = stamped_volume(SFS_VERSION_1_10);
+    CHECK(sfs_reclaim(image, 65536, LATER) == SFS_OK);
+    CHECK(volume_is(sfs_open(image, 65536, out, 6), trimmed));
+    CHECK(sfs_delete(image, 65536, B("d/the-second"), DELETED) == SFS_OK);
+    CHECK(sfs_reclaim(image, 65536, RECLAIMED) == SFS_OK);
+    trimmed.data = 5;
+    trimmed.stamp = RECLAIMED;
+    CHECK(volume_is(sfs_open(image, 65536, out, 6), trimmed));
+    CHECK(sfs_reclaim(image, 65536, LATER) == SFS_OK);
+    CHECK(volume_is(sfs_open(image, 65536, out, 6), trimmed));
+    CHECK(sfs_create_directory(image, 65536, B("d/e"), LATER) == SFS_OK);
+    CHECK(volume_is(sfs_open(image, 65536, out, 6), trimmed));
+    CHECK(entry_is(sfs_find(image, 65536, B("d/e")), (struct sfs_entry){.kind = SFS_DIRECTORY, .slot = 1, .stamp = LATER}));
+    free(image);
+}
+
+/* The full volume again: what a delete frees is there at once, and only the data area's end waits for a reclaim. */
+static void newer_full_volume(void) {
+    uint8_t *image = new_image(65536), *bytes = new_image(64001);
+    char path[] = "empty0";
+    CHECK(sfs_format(image, 65536, SFS_VERSION_1_10, 512, 2, NULL, 0, 0) == SFS_OK);
+    CHECK(sfs_create_file(image, 65536, B("big"), bytes, 64001, 0) == SFS_NO_BLOCKS);
+    CHECK(sfs_create_file(image, 65536, B("big"), bytes, 64000, 0) == SFS_OK);
+    for (; path[5] < '5'; path[5]++)
+        CHECK(sfs_create_file(image, 65536, (const uint8_t *)path, 6, NULL, 0, 0) == SFS_OK);
+    CHECK(sfs_create_file(image, 65536, (const uint8_t *)path, 6, NULL, 0, 0) == SFS_NO_SLOTS);
+    CHECK(sfs_delete(image, 65536, B("big"), 0) == SFS_OK);
+    CHECK(sfs_create_file(image, 65536, (const uint8_t *)path, 6, bytes, 63488, 0) == SFS_OK); /* its slot and its blocks */
+    path[5]++;
+    CHECK(sfs_create_file(image, 65536, (const uint8_t *)path, 6, NULL, 0, 0) == SFS_NO_SLOTS);
+    CHECK(sfs_reclaim(image, 65536, 0) == SFS_OK);
+    CHECK(sfs_create_file(image, 65536, (const uint8_t *)path, 6, NULL, 0, 0) == SFS_OK);
+    free(image);
+    free(bytes);
+}
+
+static void newer_listing(void) {
+    uint8_t *image = new_image(65536);
+    CHECK(sfs_format(image, 65536, SFS_VERSION_1_10, 512, 2, B("TERM7"), 0) == SFS_OK);
+    CHECK(sfs_create_directory(image, 65536, B("session"), 0x3C0000) == SFS_OK);
+    CHECK(sfs_create_file(image, 65536, B("session/verified"), B("yes"), -1) == SFS_OK);
+    CHECK(text_is(image, 65536,
+                  "TERM7\n"
+                  "F 3 1969-12-31T23:59:59Z session/verified\n"
+                  "D 0 1970-01-01T00:01:00Z session\n"
+                  "live 2 held 1\n"));
+    CHECK(sfs_delete(image, 65536, B("session/verified"), 0) == SFS_OK);
+    CHECK(text_is(image, 65536, "TERM7\nD 0 1970-01-01T00:01:00Z session\nlive 1 held 0\n"));
+    free(image);
+}
+
+/* Stray slots count as unused ones. A refused call leaves them, an accepted one makes them so, whatever else it does. */
+static void stray_slots(void) {
+    uint8_t *image = stamped(SFS_VERSION_1_10), *before = new_image(65536), *slots = image + 65536 - 320, out[6];
+    CHECK(sfs_delete(image, 65536, B("d/the-second"), DELETED) == SFS_OK);
+    memset(slots + 64, 'x', 64);
+    memcpy(before, image, 65536);
+    CHECK(volume_is(sfs_open(image, 65536, out, 6), stamped_volume(SFS_VERSION_1_10)));
+    CHECK(sfs_find(image, 65536, B("d/first")).slot == 2);
+    CHECK(sfs_create_directory(image, 65536, B("d"), LATER) == SFS_EXISTS);
+    CHECK(sfs_delete(image, 65536, B("d"), LATER) == SFS_NOT_EMPTY);
+    CHECK(sfs_restore(image, 65536, B("d/the-second"), LATER) == SFS_NOT_FOUND);
+    CHECK(memcmp(image, before, 65536) == 0);
+    CHECK(sfs_delete(image, 65536, B("d/first"), DELETED) == SFS_OK);
+    memcpy(before + 65536 - 320 + 64, unused, 64);
+    memcpy(before + 65536 - 320 + 128, unused, 64);
+    CHECK(memcmp(image, before, 65536) == 0);
+    memset(slots + 64, 'x', 128);
+    CHECK(sfs_create_directory(image, 65536, B("d/e"), LATER) == SFS_OK); /* in the first of them; the other is rewritten */
+    CHECK(sfs_find(image, 65536, B("d/e")).slot == 1 && memcmp(slots + 128, unused, 64) == 0);
+    slots[128] = 'x';
+    CHECK(sfs_reclaim(image, 65536, RECLAIMED) == SFS_OK);
+    slots[128] = 'x';
+    memcpy(before, image, 65536);
+    memcpy(before + 65536 - 320 + 128, unused, 64);
+    CHECK(sfs_reclaim(image, 65536, LATER) == SFS_OK); /* there is nothing to trim */
+    CHECK(memcmp(image, before, 65536) == 0);
+    free(image);
+    image = stamped(SFS_VERSION_1_0);
+    memset(image + 65536 - 320 + 64, 'x', 64);
+    CHECK(zero_volume(sfs_open(image, 65536, out, 6), SFS_INDEX));
+    free(image);
+    free(before);
+}
+
+/*
+ * A deleted run of two slots, as other programs leave one. With a right sum it is two unused slots; with a wrong one, or where
+ * it would reach the identifier, only its first slot is, and what follows is judged by itself.
+ */
+static void deleted_runs(void) {
+    enum { RIGHT, WRONG, TOO_LONG, CASES };
+    for (int is = RIGHT; is < CASES; is++) {
+        uint8_t *image = new_image(65536), *before = new_image(65536), *run = image + 65536 - 192;
+        CHECK(sfs_format(image, 65536, SFS_VERSION_1_10, 512, 2, NULL, 0, 0) == SFS_OK);
+        CHECK(sfs_create_file(image, 65536, B("a name that has 29 bytes here"), NULL, 0, LATER) == SFS_OK);
+        CHECK(run[0] == SFS_FILE && run[2] == 1 && run[64] == 0 && sum_of(run, 128) == 0);
+        run[0] = 0x1A;
+        add(run + 1, is == WRONG ? -7 : -8);
+        if (is == TOO_LONG) { /* over three slots the sum is right, the identifier's being so */
+            run[2] = 2;
+            add(run + 1, -1);
+        }
+        CHECK(zero_entry(sfs_find(image, 65536, B("a name that has 29 bytes here")), SFS_NOT_FOUND));
+        run[64] = 0x02; /* inside a run it is of no kind; else it is a marker in a wrong place */
+        add(run + 1, -2);
+        CHECK(sfs_open(image, 65536, NULL, 0).refusal == (is == RIGHT ? SFS_OK : SFS_INDEX));
+        run[64] = 0x03; /* an unused slot's: only the run's rewriting touches it */
+        add(run + 1, -1);
+        memcpy(before, image, 65536);
+        memcpy(before + 65536 - 192, unused, 64);
+        if (is == RIGHT)
+            memcpy(before + 65536 - 128, unused, 64);
+        CHECK(sfs_reclaim(image, 65536, LATER) == SFS_OK);
+        CHECK(memcmp(image, before, 65536) == 0);
+        free(image);
+        free(before);
+    }
+}
+
+/* The last byte of a slot is spare in the marker, past the zero of a short name, and in a sum. */
+static void wrong_sums(void) {
+    static const uint32_t editions[] = {SFS_VERSION_1_0, SFS_VERSION_1_10};
+    for (int i = 0; i < 2; i++) {
+        uint8_t *image = stamped(editions[i]), out[6];
+        for (size_t slot = 0; slot < 5; slot++) { /* marker, two files, a directory, identifier */
+            uint8_t *last = image + 65536 - 320 + 64 * slot + 63;
+            *last ^= 1;
+            CHECK(sfs_open(image, 65536, out, 6).refusal == (editions[i] == SFS_VERSION_1_0 ? SFS_OK : SFS_INDEX));
+            *last ^= 1;
+        }
+        CHECK(volume_is(sfs_open(image, 65536, out, 6), stamped_volume(editions[i])));
+        free(image);
+    }
+}
+
+/* An unusable entry has a sum and an inclusive end too; an unused slot's sum is not judged. */
+static void unusable_blocks(void) {
+    static const uint8_t unusable[64] = {0x18, 0xD7, [10] = 8, [18] = 9};
+    uint8_t *image = stamped(SFS_VERSION_1_10), *slot = image + 65536 - 320 + 64, out[6];
+    CHECK(sfs_delete(image, 65536, B("d/the-second"), DELETED) == SFS_OK);
+    memcpy(slot, unusable, 64);
+    CHECK(volume_is(sfs_open(image, 65536, out, 6), stamped_volume(SFS_VERSION_1_10)));
+    slot[1]++;
+    CHECK(zero_volume(sfs_open(image, 65536, out, 6), SFS_INDEX));
+    slot[18]--;
+    CHECK(sfs_open(image, 65536, out, 6).refusal == SFS_OK); /* block 8 alone */
+    slot[1] = 0xD6;
+    slot[18] = 10;
+    CHECK(zero_volume(sfs_open(image, 65536, out, 6), SFS_REGIONS)); /* past the data area */
+    memcpy(slot, unusable, 64);
+    CHECK(sfs_create_file(image, 65536, B("d/new"), B("yes"), LATER) == SFS_OK);
+    CHECK(entry_is(sfs_find(image, 65536, B("d/new")),
+                   (struct sfs_entry){.kind = SFS_FILE, .slot = 1, .start = 10, .end = 10, .length = 3, .stamp = LATER}));
+    slot[0] = 0x10;
+    CHECK(sfs_open(image, 65536, out, 6).refusal == SFS_OK);
+    free(image);
+}
+
+/* A new entry goes to the lowest unused slots before the entries of its directories; else the index grows. */
+static void before_directories(void) {
+    uint8_t *image = new_image(65536);
+    CHECK(sfs_format(image, 65536, SFS_VERSION_1_10, 512, 2, NULL, 0, 0) == SFS_OK);
+    CHECK(sfs_create_file(image, 65536, B("old"), NULL, 0, 0) == SFS_OK);
+    CHECK(sfs_create_directory(image, 65536, B("d"), 0) == SFS_OK);
+    CHECK(sfs_delete(image, 65536, B("old"), 0) == SFS_OK); /* its slot lies behind d */
+    CHECK(sfs_open(image, 65536, NULL, 0).index == 256 && sfs_find(image, 65536, B("d")).slot == 1);
+    CHECK(sfs_create_file(image, 65536, B("d/new"), NULL, 0, 0) == SFS_OK);
+    CHECK(sfs_open(image, 65536, NULL, 0).index == 320 && sfs_find(image, 65536, B("d/new")).slot == 1);
+    CHECK(sfs_create_file(image, 65536, B("new"), NULL, 0, 0) == SFS_OK);
+    CHECK(sfs_open(image, 65536, NULL, 0).index == 320 && sfs_find(image, 65536, B("new")).slot == 3);
+    free(image);
+}
+
+/* A slot holds a file's name of 28 bytes and a directory's of 52; a byte more takes another slot. 285 is taken, 286 is 10. */
+static void newer_name_lengths(void) {
+    static const struct { int file; size_t length, slots; } names[] = {
+        {1, 28, 1}, {1, 29, 2}, {1, 92, 2}, {1, 93, 3}, {0, 52, 1}, {0, 53, 2}, {1, 285, 6}, {0, 285, 5},
+    };
+    uint8_t *image = new_image(65536), path[286];
+    uint64_t index = 128;
+    CHECK(sfs_format(image, 65536, SFS_VERSION_1_10, 512, 2, NULL, 0, 0) == SFS_OK);
+    for (size_t i = 0; i < sizeof names / sizeof names[0]; i++) {
+        memset(path, (int)('a' + i), sizeof path);
+        size_t n = names[i].length;
+        if (names[i].file)
+            CHECK(sfs_create_file(image, 65536, path, n, NULL, 0, 0) == SFS_OK);
+        else
+            CHECK(sfs_create_directory(image, 65536, path, n, 0) == SFS_OK);
+        index += 64 * names[i].slots;
+        CHECK(sfs_open(image, 65536, NULL, 0).index == index);
+        CHECK(sfs_find(image, 65536, path, n).refusal == SFS_OK && sfs_find(image, 65536, path, n - 1).refusal == SFS_NOT_FOUND);
+    }
+    CHECK(sfs_create_file(image, 65536, path, 286, NULL, 0, 0) == SFS_NAME);
+    free(image);
+}
+
 int main(void) {
     empty_slices();
     formats_refused();
     formats();
-    every_field();
+    every_field(SFS_VERSION_1_0);
+    every_field(SFS_VERSION_1_10);
     stamps_of_writes();
     creates_refused();
     reads();
@@ -526,6 +850,19 @@ int main(void) {
     names_refused();
     names_in_utf8();
     names_over_slots();
+    newer_formats();
+    both_magics();
+    later_version();
+    newer_deletes();
+    newer_reclaims();
+    newer_full_volume();
+    newer_listing();
+    stray_slots();
+    deleted_runs();
+    wrong_sums();
+    unusable_blocks();
+    before_directories();
+    newer_name_lengths();
     printf("%d passed, %d failed\n", passed, failed);
     return failed != 0;
 }

@@ -7,6 +7,7 @@ use second::{Found, Opened, Read, Written};
 struct Volume {
     refusal: u32,
     version: u32,
+    edition: u32,
     total: u64,
     reserved: u64,
     block_length: u64,
@@ -50,6 +51,7 @@ extern "C" {
     fn sfs_format(
         image: *mut u8,
         image_len: usize,
+        version: u64,
         bytes_per_block: u64,
         reserved: u64,
         name: *const u8,
@@ -88,8 +90,9 @@ fn written(refusal: u32) -> Written {
 }
 
 impl Store for Library {
-    fn format(&self, image: &mut [u8], block: u64, reserved: u64, name: &[u8], stamp: i64) -> Written {
-        written(unsafe { sfs_format(image.as_mut_ptr(), image.len(), block, reserved, name.as_ptr(), name.len(), stamp) })
+    fn format(&self, image: &mut [u8], version: u64, block: u64, reserved: u64, name: &[u8], stamp: i64) -> Written {
+        let (i, n) = (image.as_mut_ptr(), image.len());
+        written(unsafe { sfs_format(i, n, version, block, reserved, name.as_ptr(), name.len(), stamp) })
     }
 
     fn open(&self, image: &[u8], out: &mut [u8]) -> Opened {
@@ -105,6 +108,7 @@ impl Store for Library {
             super_block_stamp: a.stamp,
             volume_stamp: a.volume_stamp,
             name_length: a.name_length,
+            edition: a.edition as u8,
         }
     }
 

@@ -1,7 +1,8 @@
-//! `compare SEED CALLS [KIND]`: a generated script on both stores, line by line. The first difference ends the run and prints a
-//! script that shows it; without one it says how often restore gave each answer. `compare bench`: the calls on 16 MiB volumes of
-//! several looks and sizes (those alone whose names begin with VOLUMES, if it is given), all programs in one run. `compare names`: the name rule by both programs and by Rust's own reading of UTF-8, on every
-//! short string.
+//! `compare SEED CALLS [KIND]`: a generated script on both stores, line by line, over both editions. The first difference ends the run
+//! and prints a script that shows it; without one it says how often restore gave each answer, and how often calls on volumes of edition
+//! 1.10 did. `compare counts SEED CALLS [KIND]`: the same, but it says how often each call gave each answer in each edition.
+//! `compare bench`: the calls on 16 MiB volumes of several looks and sizes (those alone whose names begin with VOLUMES, if it is given),
+//! all programs in one run. `compare names`: the name rule by both programs and by Rust's own reading of UTF-8, on every short string.
 
 #[cfg(before)]
 #[allow(dead_code)]
@@ -15,10 +16,11 @@ mod names;
 use library::Library;
 use second::generator;
 use second::script::Session;
-use second::selftest::restore_table;
+use second::selftest::{call_table, newer_table, restore_table};
+use second::Edition;
 use std::process::ExitCode;
 
-const USAGE: &str = "usage: compare SEED CALLS [history|damage|built|edges|args|names|restore|tails|crowded]
+const USAGE: &str = "usage: compare [counts] SEED CALLS [history|damage|built|edges|args|names|restore|tails|crowded|sums|editions]
        compare bench [VOLUMES]
        compare names";
 
@@ -29,8 +31,10 @@ fn main() -> ExitCode {
         ["bench"] => bench::run(""),
         ["bench", volumes] => bench::run(volumes),
         ["names"] => names::run(),
-        [seed, calls] => compare(seed, calls, None),
-        [seed, calls, kind] => compare(seed, calls, Some(kind)),
+        ["counts", seed, calls] => compare(seed, calls, None, counts),
+        ["counts", seed, calls, kind] => compare(seed, calls, Some(kind), counts),
+        [seed, calls] => compare(seed, calls, None, tables),
+        [seed, calls, kind] => compare(seed, calls, Some(kind), tables),
         _ => Err(USAGE.to_string()),
     };
     match outcome {
@@ -45,7 +49,18 @@ fn main() -> ExitCode {
     }
 }
 
-fn compare(seed: &str, calls: &str, kind: Option<&str>) -> Result<String, String> {
+/// What is said of the answers besides that they were alike.
+type Told = fn(&Session) -> String;
+
+fn tables(own: &Session) -> String {
+    restore_table(&own.answers("restore")) + &newer_table(&own.answers_in(Edition::V1_10))
+}
+
+fn counts(own: &Session) -> String {
+    call_table(own.by_call())
+}
+
+fn compare(seed: &str, calls: &str, kind: Option<&str>, told: Told) -> Result<String, String> {
     let seed: u64 = seed.parse().map_err(|_| USAGE)?;
     let calls: u64 = calls.parse().map_err(|_| USAGE)?;
     let script = generator::script(seed, calls, kind).ok_or(USAGE)?;
@@ -65,8 +80,7 @@ fn compare(seed: &str, calls: &str, kind: Option<&str>) -> Result<String, String
             _ => {}
         }
     }
-    let restores = restore_table(&own.answers("restore"));
-    Ok(format!("{restores}seed {seed}: {} calls alike, {histories} histories held", own.calls))
+    Ok(format!("{}seed {seed}: {} calls alike, {histories} histories held", told(&own), own.calls))
 }
 
 /// The lines since the image was last made anew, which are enough to show a difference.

@@ -1,12 +1,14 @@
 //! The name rule by three judges: the library, the second program, and Rust's own reading of UTF-8 with the rule on codes.
-//! They judge every string of one, two and three bytes, and those of four bytes that lie at the edges, in several ways each.
+//! They judge every string of one, two and three bytes, and those of four bytes that lie at the edges, in several ways each: as
+//! arguments, and stored in volumes of both editions.
 
 use crate::library::Library;
 use second::index::{DELETED_FILE, FILE, FILE_NAME_AT, VOLUME_NAME_AT};
 use second::refusal::{Refusal, BAD_NAME, INDEX, NOT_LIVE, PATHS, SUCCESS};
 use second::script::hex;
 use second::store::{Own, Store};
-use second::Written;
+use second::{Edition, Written};
+use std::ops::Range;
 use std::thread;
 
 const THREADS: usize = 2;
@@ -26,17 +28,21 @@ const PROGRAMS: [&(dyn Store + Sync); 2] = [&Library, &Own];
 enum Place {
     Path,
     Name,
-    Stored(usize),
+    /// The byte, and the run whose sum is then made right, in an edition that has sums.
+    Stored(usize, Range<usize>),
 }
 
 /// A way to lay a string before the judges.
 struct Way {
-    title: &'static str,
+    title: String,
+    edition: Edition,
     place: Place,
     image: Vec<u8>,
-    /// The third judge's answer.
-    wanted: fn(&[u8]) -> Refusal,
+    wanted: Wanted,
 }
+
+/// The third judge's answer.
+type Wanted = fn(&[u8]) -> Refusal;
 
 /// How many strings were judged, and how many of them were good in each way.
 struct Tally {
@@ -91,7 +97,7 @@ fn judge(ways: &mut [Way], string: &[u8], tally: &mut Tally) -> Result<(), Strin
         let wanted = (way.wanted)(string);
         let [library, own] = way.ask(string);
         if library != wanted || own != wanted {
-            let (title, string) = (way.title, hex(string));
+            let (title, string) = (&way.title, hex(string));
             return Err(format!("{string} as {title}: library {library}, second {own}, Rust's reading {wanted}"));
         }
         *good += u64::from(wanted != INDEX && wanted != BAD_NAME);
@@ -102,13 +108,15 @@ fn judge(ways: &mut [Way], string: &[u8], tally: &mut Tally) -> Result<(), Strin
 impl Way {
     fn ask(&mut self, string: &[u8]) -> [Refusal; 2] {
         let image = &mut self.image;
-        match self.place {
+        let version = self.edition.version().into();
+        match &self.place {
             Place::Path => PROGRAMS.map(|program| program.find(image, string).refusal),
-            Place::Name => PROGRAMS.map(|program| program.format(image, BLOCK, RESERVED, string, 0).refusal),
-            Place::Stored(at) => {
+            Place::Name => PROGRAMS.map(|program| program.format(image, version, BLOCK, RESERVED, string, 0).refusal),
+            Place::Stored(at, run) => {
                 // Clears what a longer string has left; the zero behind this one ends the name.
-                image[at..at + 5].fill(0);
-                image[at..at + string.len()].copy_from_slice(string);
+                image[*at..at + 5].fill(0);
+                image[*at..at + string.len()].copy_from_slice(string);
+                self.edition.seal(&mut image[run.clone()]);
                 PROGRAMS.map(|program| program.open(image, &mut [0; 51]).refusal)
             }
         }
@@ -119,39 +127,51 @@ impl Way {
 const BYTES: usize = 1024;
 const BLOCK: u64 = 256;
 const RESERVED: u64 = 2;
-/// Bytes of the name before the string that lies across two slots: two of it are in the first.
+/// Bytes of the name before the string that lies across two slots: two of it, or one in edition 1.10, are in the first.
 const BEFORE: usize = 28;
 
-fn ways() -> Result<[Way; 5], String> {
-    let image = volume()?;
-    let volume_name = Place::Stored(BYTES - 64 + VOLUME_NAME_AT);
-    let (deleted, deleted_at) = volume_with(b"n", DELETED_FILE)?;
-    let (live, live_at) = volume_with(&[b'n'; BEFORE + 4], FILE)?;
-    let across = Place::Stored(live_at + BEFORE);
+fn ways() -> Result<Vec<Way>, String> {
+    let edition = Edition::V1_0;
+    let image = volume(edition)?;
+    let way = |title: &str, place, wanted: Wanted| Way { title: title.to_string(), edition, place, image: image.clone(), wanted };
+    let mut ways = vec![way("path argument", Place::Path, path_argument), way("name argument", Place::Name, name_argument)];
+    ways.extend(stored_ways(Edition::V1_0, "1.0")?);
+    ways.extend(stored_ways(Edition::V1_10, "1.10")?);
+    Ok(ways)
+}
+
+/// The ways in which a volume of the edition stores the string.
+fn stored_ways(edition: Edition, named: &str) -> Result<[Way; 3], String> {
+    let way = |title: &str, image, at, run, wanted: Wanted| {
+        Way { title: format!("{title} of {named}"), edition, place: Place::Stored(at, run), image, wanted }
+    };
+    let identifier = BYTES - 64..BYTES;
+    let (deleted, deleted_at, deleted_run) = volume_with(edition, b"n", DELETED_FILE)?;
+    let (live, live_at, live_run) = volume_with(edition, &[b'n'; BEFORE + 4], FILE)?;
+    let of_deleted: Wanted = if edition.keeps_deleted() { deleted_stored } else { not_judged };
     Ok([
-        Way { title: "path argument", place: Place::Path, image: image.clone(), wanted: path_argument },
-        Way { title: "name argument", place: Place::Name, image: image.clone(), wanted: name_argument },
-        Way { title: "volume name", place: volume_name, image, wanted: volume_name_stored },
-        Way { title: "deleted name", place: Place::Stored(deleted_at), image: deleted, wanted: deleted_stored },
-        Way { title: "live name across slots", place: across, image: live, wanted: live_stored },
+        way("volume name", volume(edition)?, identifier.start + VOLUME_NAME_AT, identifier, volume_name_stored),
+        way("deleted name", deleted, deleted_at, deleted_run, of_deleted),
+        way("live name across slots", live, live_at + BEFORE, live_run, live_stored),
     ])
 }
 
-fn volume() -> Result<Vec<u8>, String> {
+fn volume(edition: Edition) -> Result<Vec<u8>, String> {
     let mut image = vec![0; BYTES];
-    accepted(second::format(&mut image, BLOCK, RESERVED, b"", 0))?;
+    accepted(second::format(&mut image, edition.version().into(), BLOCK, RESERVED, b"", 0))?;
     Ok(image)
 }
 
-/// A volume with one entry, an empty file of this kind, and where the file's name lies.
-fn volume_with(path: &[u8], kind: u8) -> Result<(Vec<u8>, usize), String> {
-    let mut image = volume()?;
+/// A volume with one entry, an empty file of this kind, where the file's name lies, and its run.
+fn volume_with(edition: Edition, path: &[u8], kind: u8) -> Result<(Vec<u8>, usize, Range<usize>), String> {
+    let mut image = volume(edition)?;
     accepted(second::create_file(&mut image, path, 0, b""))?;
-    // The file has made the index larger, so its run starts behind the marker.
-    let continuing = usize::from(path.len() >= 64 - FILE_NAME_AT);
-    let entry = image.len() - 64 * (2 + continuing);
-    image[entry] = kind;
-    Ok((image, entry + FILE_NAME_AT))
+    // The file has made the index larger, so its run lies between the marker and the identifier.
+    let name = edition.entry_field(FILE_NAME_AT);
+    let slots = 1 + usize::from(path.len() >= 64 - name);
+    let run = BYTES - 64 - 64 * slots..BYTES - 64;
+    image[run.start] = kind;
+    Ok((image, run.start + name, run))
 }
 
 fn accepted(written: Written) -> Result<(), String> {
@@ -211,6 +231,11 @@ fn volume_name_stored(string: &[u8]) -> Refusal {
 
 fn deleted_stored(string: &[u8]) -> Refusal {
     unless(path_allowed(until_zero(string)), INDEX)
+}
+
+/// What is deleted is unused slots.
+fn not_judged(_: &[u8]) -> Refusal {
+    SUCCESS
 }
 
 /// There is no directory for a path of several parts.

@@ -23,9 +23,11 @@ pub struct Opened {
     pub super_block_stamp: i64,
     pub volume_stamp: i64,
     pub name_length: u64,
+    /// Its version byte stands for it: 0x10 or 0x1A.
+    pub edition: u8,
 }
 
-/// The answer of find.
+/// The answer of find. Here and in a list the end is as the edition stores it.
 #[derive(Clone, Copy, Debug, Default, PartialEq, Eq)]
 pub struct Found {
     pub refusal: Refusal,

@@ -2,8 +2,9 @@
 
 use crate::answer::Written;
 use crate::bytes::put;
+use crate::edition::Edition;
 use crate::index::{
-    COUNT_AT, DIRECTORY, DIRECTORY_NAME_AT, END_AT, FILE, FILE_NAME_AT, LENGTH_AT, MARKER, SLOT_LENGTH, STAMP_AT,
+    self, COUNT_AT, DIRECTORY, DIRECTORY_NAME_AT, END_AT, FILE, FILE_NAME_AT, LENGTH_AT, MARKER, SLOT_LENGTH, STAMP_AT,
     START_AT,
 };
 use crate::names;
@@ -27,11 +28,11 @@ impl<'a> Content<'a> {
         }
     }
 
-    fn name_at(&self) -> usize {
-        match self {
+    fn name_at(&self, edition: Edition) -> usize {
+        edition.entry_field(match self {
             Content::File(_) => FILE_NAME_AT,
             Content::Directory => DIRECTORY_NAME_AT,
-        }
+        })
     }
 }
 
@@ -39,6 +40,8 @@ impl<'a> Content<'a> {
 struct Plan {
     old: Geometry,
     new: Geometry,
+    /// Slots to make unused before all else, numbered as before any growth.
+    stale: Vec<u64>,
     /// First slot of the run, numbered as after any growth.
     slot: u64,
     slots: u64,
@@ -65,26 +68,29 @@ fn plan(image: &[u8], path: &[u8], content: Content) -> Result<Plan, Refusal> {
         return Err(refusal::BAD_NAME);
     }
     volume.judge_vacant(path)?;
-    let slots = 1 + continuing(path.len(), content);
-    let (slot, grown) = take_slots(&volume, slots)?;
+    let old = volume.super_block.geometry;
+    let slots = 1 + continuing(path.len(), content, old.edition);
+    let (slot, grown) = take_slots(&volume, path, slots)?;
     let region = take_blocks(&volume, &grown, content.bytes().len())?;
     let end = region.map_or(0, |region| region.end);
     let data = grown.data.max(end.saturating_sub(grown.reserved));
-    Ok(Plan { old: volume.super_block.geometry, new: Geometry { data, ..grown }, slot, slots, region })
+    Ok(Plan { old, new: Geometry { data, ..grown }, stale: volume.index.stale, slot, slots, region })
 }
 
 /// The fewest slots beyond the first that hold the name and its zero.
-fn continuing(name_length: usize, content: Content) -> u64 {
-    let first = SLOT_LENGTH - content.name_at();
+fn continuing(name_length: usize, content: Content, edition: Edition) -> u64 {
+    let first = SLOT_LENGTH - content.name_at(edition);
     let rest = (name_length + 1).saturating_sub(first);
     rest.div_ceil(SLOT_LENGTH) as u64
 }
 
 /// The first slot of the run and the geometry after any growth. Growth happens whole or not at
 /// all: unused slots next to the old marker are not joined to the new ones.
-fn take_slots(volume: &Volume, wanted: u64) -> Result<(u64, Geometry), Refusal> {
+fn take_slots(volume: &Volume, path: &[u8], wanted: u64) -> Result<(u64, Geometry), Refusal> {
     let old = volume.super_block.geometry;
-    if let Some(slot) = volume.index.lowest_free_run(wanted) {
+    let limit = if old.edition.orders_entries() { volume.live.first_directory(path) } else { None };
+    let lowest = volume.index.lowest_free_run(wanted);
+    if let Some(slot) = lowest.filter(|slot| limit.is_none_or(|limit| *slot < limit)) {
         return Ok((slot, old));
     }
     let grown = Geometry { index: old.index + SLOT * wanted, ..old };
@@ -108,10 +114,9 @@ fn take_blocks(volume: &Volume, grown: &Geometry, length: usize) -> Result<Optio
 }
 
 fn carry_out(image: &mut [u8], path: &[u8], stamp: i64, content: Content, plan: &Plan) {
+    index::empty(image, &plan.old, &plan.stale);
     if plan.new.index != plan.old.index {
-        let mut marker = [0; SLOT_LENGTH];
-        marker[0] = MARKER;
-        put(image, plan.new.slot_offset(0), &marker);
+        put(image, plan.new.slot_offset(0), &plan.new.edition.bare_slot(MARKER));
     }
     put(image, plan.new.slot_offset(plan.slot), &run(path, stamp, content, plan));
     if let Some(region) = plan.region {
@@ -127,19 +132,22 @@ fn carry_out(image: &mut [u8], path: &[u8], stamp: i64, content: Content, plan: 
 
 /// The bytes of the new entry's slots.
 fn run(path: &[u8], stamp: i64, content: Content, plan: &Plan) -> Vec<u8> {
+    let edition = plan.new.edition;
+    let at = |field| edition.entry_field(field);
     let mut run = vec![0; plan.slots as usize * SLOT_LENGTH];
-    put(&mut run, COUNT_AT, &[(plan.slots - 1) as u8]);
-    put(&mut run, STAMP_AT, &stamp.to_le_bytes());
-    put(&mut run, content.name_at(), path);
+    put(&mut run, at(COUNT_AT), &[(plan.slots - 1) as u8]);
+    put(&mut run, at(STAMP_AT), &stamp.to_le_bytes());
+    put(&mut run, content.name_at(edition), path);
     match content {
         Content::Directory => put(&mut run, 0, &[DIRECTORY]),
         Content::File(bytes) => {
-            let (start, end) = plan.region.map_or((0, 0), |region| (region.start, region.end));
+            let (start, end) = plan.region.map_or((0, 0), |region| (region.start, edition.stored_end(region.end)));
             put(&mut run, 0, &[FILE]);
-            put(&mut run, START_AT, &start.to_le_bytes());
-            put(&mut run, END_AT, &end.to_le_bytes());
-            put(&mut run, LENGTH_AT, &(bytes.len() as u64).to_le_bytes());
+            put(&mut run, at(START_AT), &start.to_le_bytes());
+            put(&mut run, at(END_AT), &end.to_le_bytes());
+            put(&mut run, at(LENGTH_AT), &(bytes.len() as u64).to_le_bytes());
         }
     }
+    edition.seal(&mut run);
     run
 }

@@ -4,6 +4,7 @@
 //! the image by a walk of its own, so that a fault in the calls' planning cannot hide itself; only
 //! the reads of live files go through the calls, because they are part of what is checked.
 
+use crate::edition::Edition;
 use crate::query;
 
 const LIVE_DIRECTORY: u8 = 0x11;
@@ -12,7 +13,7 @@ const LIVE_FILE: u8 = 0x12;
 /// One call, as far as the history cares for it.
 #[derive(Clone, Copy, Debug)]
 pub enum Told<'a> {
-    Format { block: u64 },
+    Format { version: u64, block: u64 },
     File { path: &'a [u8], bytes: &'a [u8] },
     Directory { path: &'a [u8] },
     Delete { path: &'a [u8] },
@@ -32,6 +33,7 @@ struct Kept {
 /// What an accepted list of calls should have left behind.
 #[derive(Clone, Debug, Default)]
 pub struct History {
+    edition: Edition,
     block: u64,
     entries: Vec<Kept>,
     granted: u64,
@@ -40,8 +42,8 @@ pub struct History {
 
 impl History {
     /// The history just after an accepted format.
-    pub fn begin(block: u64) -> Self {
-        History { block, ..History::default() }
+    pub fn begin(version: u64, block: u64) -> Self {
+        History { edition: Edition::of_version(version).unwrap_or_default(), block, ..History::default() }
     }
 
     /// Hears of one call; a refused one changes nothing.
@@ -50,20 +52,28 @@ impl History {
             return;
         }
         match call {
-            Told::Format { block } => *self = History::begin(block),
+            Told::Format { version, block } => *self = History::begin(version, block),
             Told::File { path, bytes } => {
                 let blocks = (bytes.len() as u64).div_ceil(self.block.max(1));
                 self.add(path, LIVE_FILE, bytes, blocks);
             }
             Told::Directory { path } => self.add(path, LIVE_DIRECTORY, &[], 0),
-            Told::Delete { path } => self.turn(path, false),
-            Told::Restore { path } => self.turn(path, true),
-            Told::Reclaim => {
-                let deleted = self.entries.iter().filter(|kept| !kept.live);
-                self.given_back += deleted.map(|kept| kept.blocks).sum::<u64>();
-                self.entries.retain(|kept| kept.live);
+            Told::Delete { path } => {
+                self.turn(path, false);
+                if !self.edition.keeps_deleted() {
+                    self.strike();
+                }
             }
+            Told::Restore { path } => self.turn(path, true),
+            Told::Reclaim => self.strike(),
         }
+    }
+
+    /// Strikes the deleted entries and gives their blocks back.
+    fn strike(&mut self) {
+        let deleted = self.entries.iter().filter(|kept| !kept.live);
+        self.given_back += deleted.map(|kept| kept.blocks).sum::<u64>();
+        self.entries.retain(|kept| kept.live);
     }
 
     /// Turns the path's live entry deleted, or its deleted one live. Its blocks stay granted either way, and an
@@ -81,7 +91,7 @@ impl History {
 
     /// Checks the image the list has left; the error says what is wrong.
     pub fn check(&self, image: &[u8]) -> Result<(), String> {
-        let seen = walk(image)?;
+        let seen = walk(image, self.edition)?;
         self.check_blocks(image, &seen)?;
         self.check_live(&seen)?;
         self.entries.iter().filter(|kept| kept.live && kept.kind == LIVE_FILE).try_for_each(|kept| kept.check(image))
@@ -92,7 +102,7 @@ impl History {
         let mut owned = vec![false; image.len() / self.block.max(1) as usize];
         let mut held = 0;
         for file in seen {
-            for block in file.start..file.end {
+            for block in file.start..file.past {
                 let owner = owned.get_mut(block as usize).ok_or("a block beyond the image")?;
                 if std::mem::replace(owner, true) {
                     return Err(format!("block {block} is held twice"));
@@ -144,7 +154,8 @@ struct Seen {
     kind: u8,
     path: Vec<u8>,
     start: u64,
-    end: u64,
+    /// The block behind its last one.
+    past: u64,
 }
 
 fn number(bytes: &[u8]) -> u64 {
@@ -152,32 +163,64 @@ fn number(bytes: &[u8]) -> u64 {
 }
 
 /// All named entries, by a plain walk over the slots.
-fn walk(image: &[u8]) -> Result<Vec<Seen>, String> {
-    let size = number(image.get(0x1A4..).unwrap_or(&[]));
+fn walk(image: &[u8], edition: Edition) -> Result<Vec<Seen>, String> {
+    let size_at = if edition == Edition::V1_10 { 0x19E } else { 0x1A4 };
+    let size = number(image.get(size_at..).unwrap_or(&[]));
     let from = (image.len() as u64).checked_sub(size).ok_or("the index is larger than the image")?;
     let slots: Vec<&[u8]> = image[from as usize..].chunks(64).collect();
+    let markers = [slots.first(), slots.last()];
+    if edition == Edition::V1_10 && !markers.into_iter().flatten().all(|slot| sums_to_zero(slot)) {
+        return Err("a marker has a wrong sum".to_string());
+    }
     let mut seen = Vec::new();
     let mut at = 1;
     while at + 1 < slots.len() {
-        let slot = slots[at];
-        let name_at = match slot[0] {
-            0x11 | 0x19 => 10,
-            0x12 | 0x1A => 34,
-            0x01 | 0x02 | 0x20..=0xFF => return Err(format!("slot {at} has type {}", slot[0])),
-            _ => {
-                at += 1;
-                continue;
+        let kind = slots[at][0];
+        at += match edition {
+            Edition::V1_10 if matches!(kind, 0x19 | 0x1A) => struck(&slots, at),
+            Edition::V1_10 if kind >= 0x20 => 1,
+            _ if matches!(kind, 0x11 | 0x12 | 0x19 | 0x1A) => {
+                let run = run_at(&slots, at, edition)?;
+                seen.push(seen_in(&run, edition)?);
+                run.len() / 64
             }
+            _ if matches!(kind, 0x01 | 0x02 | 0x20..) => return Err(format!("slot {at} has type {kind}")),
+            _ => 1,
         };
-        let next = at + 1 + usize::from(slot[1]);
-        if next >= slots.len() {
-            return Err(format!("the run of slot {at} meets the identifier"));
-        }
-        let text = slots[at..next].concat().split_off(name_at);
-        let path: Vec<u8> = text.iter().copied().take_while(|byte| *byte != 0).collect();
-        let blocks = if name_at == 34 { (number(&slot[10..]), number(&slot[18..])) } else { (0, 0) };
-        seen.push(Seen { kind: slot[0], path, start: blocks.0, end: blocks.1 });
-        at = next;
     }
     Ok(seen)
+}
+
+/// The slots of a named run in one piece.
+fn run_at(slots: &[&[u8]], at: usize, edition: Edition) -> Result<Vec<u8>, String> {
+    let count_at = if edition == Edition::V1_10 { 2 } else { 1 };
+    let next = at + 1 + usize::from(slots[at][count_at]);
+    if next >= slots.len() {
+        return Err(format!("the run of slot {at} meets the identifier"));
+    }
+    Ok(slots[at..next].concat())
+}
+
+fn sums_to_zero(run: &[u8]) -> bool {
+    run.iter().map(|byte| u64::from(*byte)).sum::<u64>() % 256 == 0
+}
+
+/// How many unused slots a deleted head of edition 1.10 stands for.
+fn struck(slots: &[&[u8]], at: usize) -> usize {
+    run_at(slots, at, Edition::V1_10).ok().filter(|run| sums_to_zero(run)).map_or(1, |run| run.len() / 64)
+}
+
+/// What the run of a directory or file says.
+fn seen_in(run: &[u8], edition: Edition) -> Result<Seen, String> {
+    let later = usize::from(edition == Edition::V1_10);
+    if edition == Edition::V1_10 && !sums_to_zero(run) {
+        return Err("a run has a wrong sum".to_string());
+    }
+    let file = matches!(run[0], 0x12 | 0x1A);
+    let name_at = if file { 34 } else { 10 } + later;
+    let path: Vec<u8> = run[name_at..].iter().copied().take_while(|byte| *byte != 0).collect();
+    let (start, end) = if file { (number(&run[10 + later..]), number(&run[18 + later..])) } else { (0, 0) };
+    // The last block of 1.10 is the one before the end of 1.0; without blocks both numbers are 0.
+    let past = if edition == Edition::V1_10 && start > 0 { end.saturating_add(1) } else { end };
+    Ok(Seen { kind: run[0], path, start, past })
 }

@@ -1,4 +1,4 @@
-//! A second, independent implementation of the Simple File System 1.0.
+//! A second, independent implementation of the Simple File System, editions 1.0 and 1.10.
 //!
 //! It exists to be compared with another program, so it is kept plain: every call judges the whole
 //! image afresh, plans with ordinary vectors, and writes only once nothing can be refused any more.
@@ -8,6 +8,7 @@ pub mod answer;
 pub mod bytes;
 pub mod create;
 pub mod dates;
+pub mod edition;
 pub mod erase;
 pub mod format;
 pub mod generator;
@@ -28,6 +29,7 @@ pub mod xorshift;
 
 pub use answer::{Found, Listed, Opened, Read, Written};
 pub use create::{create, create_directory, create_file, Content};
+pub use edition::Edition;
 pub use erase::{delete, reclaim, restore};
 pub use format::format;
 pub use listing::listing;

@@ -3,6 +3,7 @@
 use crate::dates;
 use crate::index::{Entry, FILE};
 use crate::refusal::{self, Refusal};
+use crate::regions;
 use crate::volume::Volume;
 
 /// The most input the listing program takes, in bytes.
@@ -26,7 +27,9 @@ fn accepted(input: &[u8]) -> Result<Vec<u8>, Refusal> {
     for entry in entries.iter().filter(|entry| entry.is_live()) {
         line(&mut text, entry);
     }
-    let held: u64 = entries.iter().filter(|entry| entry.is_file()).map(|entry| entry.end - entry.start).sum();
+    let edition = volume.super_block.geometry.edition;
+    let files = entries.iter().filter(|entry| entry.is_file());
+    let held: u64 = files.filter_map(|entry| regions::held(entry, edition)).map(|region| region.blocks()).sum();
     text.extend_from_slice(format!("live {} held {held}\n", volume.live.len()).as_bytes());
     Ok(text)
 }

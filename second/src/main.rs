@@ -7,7 +7,7 @@ use std::io::{self, BufRead, BufWriter, Read, Write};
 use std::process::ExitCode;
 
 const USAGE: &str = "usage: second run < SCRIPT
-       second gen SEED COUNT [history|damage|built|edges|args|names|restore|tails|crowded]
+       second gen SEED COUNT [history|damage|built|edges|args|names|restore|tails|crowded|sums|editions]
        second selftest SEED SCRIPTS
        second listing < IMAGE";
 

@@ -41,6 +41,12 @@ impl<'a> LivePaths<'a> {
         }
     }
 
+    /// The lowest slot that an entry of the path's leading directories starts at, if it has any.
+    pub fn first_directory(&self, path: &[u8]) -> Option<u64> {
+        let leading = std::iter::successors(names::parent(path), |path| names::parent(path));
+        leading.filter_map(|path| self.get(path)).map(|entry| entry.slot).min()
+    }
+
     /// Whether any live path lies below this one.
     pub fn has_below(&self, path: &[u8]) -> bool {
         let prefix = [path, b"/"].concat();

@@ -29,6 +29,7 @@ fn try_open(image: &[u8], output: &mut [u8]) -> Result<Opened, Refusal> {
         super_block_stamp: super_block.stamp,
         volume_stamp: index.volume_stamp,
         name_length: index.volume_name.len() as u64,
+        edition: geometry.edition.version(),
     })
 }
 

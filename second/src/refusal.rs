@@ -6,7 +6,7 @@ pub type Refusal = u8;
 pub const SUCCESS: Refusal = 0;
 pub const IMAGE_LENGTH: Refusal = 1;
 pub const MAGIC: Refusal = 2;
-pub const OLD_VERSION: Refusal = 3;
+pub const OTHER_VERSION: Refusal = 3;
 pub const CHECKSUM: Refusal = 4;
 pub const GEOMETRY: Refusal = 5;
 pub const INDEX: Refusal = 6;
@@ -30,6 +30,9 @@ pub const HIGHEST: Refusal = SEVERAL_DELETED;
 
 /// The numbers restore can answer.
 pub const OF_RESTORE: [Refusal; 15] = [0, 1, 2, 3, 4, 5, 6, 7, 8, 9, 10, 11, 12, 13, 19];
+
+/// The numbers that calls on a volume of edition 1.10 can answer once its length is right, formats left out.
+pub const OF_1_10: [Refusal; 16] = [0, 3, 4, 5, 6, 7, 8, 10, 11, 12, 13, 14, 15, 16, 17, 18];
 
 /// How often each number was answered, success at place 0.
 pub type Counts = [u64; HIGHEST as usize + 1];

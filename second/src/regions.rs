@@ -1,6 +1,7 @@
 //! Regions of blocks: their bounds, that none share a block (refusal 7), and the search for a free
 //! run of blocks.
 
+use crate::edition::Edition;
 use crate::index::{Entry, UNUSABLE};
 use crate::refusal::{self, Refusal};
 use crate::superblock::Geometry;
@@ -10,6 +11,12 @@ use crate::superblock::Geometry;
 pub struct Region {
     pub start: u64,
     pub end: u64,
+}
+
+impl Region {
+    pub fn blocks(&self) -> u64 {
+        self.end.saturating_sub(self.start)
+    }
 }
 
 /// Judges the regions of all entries and gives them in order of their blocks.
@@ -37,6 +44,7 @@ fn region(entry: &Entry, geometry: &Geometry) -> Result<Option<Region>, Refusal>
     if !unusable && start == 0 && end == 0 && length == 0 {
         return Ok(None);
     }
+    let end = geometry.edition.past(end).ok_or(refusal::REGIONS)?;
     let bounded = geometry.reserved <= start && start < end && end <= geometry.data_end();
     if !bounded {
         return Err(refusal::REGIONS);
@@ -46,6 +54,12 @@ fn region(entry: &Entry, geometry: &Geometry) -> Result<Option<Region>, Refusal>
         return Err(refusal::REGIONS);
     }
     Ok(Some(Region { start, end }))
+}
+
+/// The region of an entry that has been judged. Block 0 is always reserved, so a start of 0 says that there is none.
+pub fn held(entry: &Entry, edition: Edition) -> Option<Region> {
+    let end = edition.past(entry.end)?;
+    (entry.start > 0).then_some(Region { start: entry.start, end })
 }
 
 /// The lowest start at or above `from` with `wanted` blocks that meet no region and end at or below

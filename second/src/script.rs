@@ -1,6 +1,7 @@
 //! The script interpreter. `SCRIPT.md` is the exact description of what it reads and prints.
 
 use crate::answer::{Found, Listed, Opened};
+use crate::edition::Edition;
 use crate::history::{History, Told};
 use crate::refusal::{Counts, Refusal};
 use crate::store::{Own, Store};
@@ -82,6 +83,9 @@ fn bounded(length: u64) -> Result<usize, String> {
     Ok(length as usize)
 }
 
+/// The word of a call and the edition it meets: by the image's magic before the call, for a format by its version.
+pub type Called = (String, Option<Edition>);
+
 /// The state a script works on, and a tally of the answers.
 #[derive(Clone, Debug)]
 pub struct Session<S = Own> {
@@ -90,8 +94,8 @@ pub struct Session<S = Own> {
     history: Option<History>,
     /// How often each refusal number was the answer of a call; listings and histories not counted.
     pub met: Counts,
-    /// The same, parted by the word of the call.
-    by_word: BTreeMap<String, Counts>,
+    /// The same with listings, parted by call.
+    by_call: BTreeMap<Called, Counts>,
     /// Calls answered, listings among them.
     pub calls: u64,
     /// The last call's refusal number.
@@ -115,17 +119,34 @@ impl Session {
 impl<S: Store> Session<S> {
     /// A session whose calls go to this store.
     pub fn over(store: S) -> Self {
-        let (image, met, by_word) = Default::default();
-        Session { store, image, history: None, met, by_word, calls: 0, last: 0, digests: true }
+        let (image, met, by_call) = Default::default();
+        Session { store, image, history: None, met, by_call, calls: 0, last: 0, digests: true }
     }
 
     pub fn image(&self) -> &[u8] {
         &self.image
     }
 
+    /// How often each call answered each number, by edition.
+    pub fn by_call(&self) -> &BTreeMap<Called, Counts> {
+        &self.by_call
+    }
+
     /// How often the calls of this word answered each number.
     pub fn answers(&self, word: &str) -> Counts {
-        self.by_word.get(word).copied().unwrap_or_default()
+        self.sum(|(called, _)| called == word)
+    }
+
+    /// How often calls on images with this edition's magic answered each number, formats and listings left out.
+    pub fn answers_in(&self, edition: Edition) -> Counts {
+        self.sum(|(word, met)| *met == Some(edition) && !matches!(word.as_str(), "format" | "listing"))
+    }
+
+    fn sum(&self, wanted: impl Fn(&Called) -> bool) -> Counts {
+        let mut sums = Counts::default();
+        let wanted = self.by_call.iter().filter(|(called, _)| wanted(called));
+        wanted.for_each(|(_, counts)| sums.iter_mut().zip(counts).for_each(|(sum, count)| *sum += count));
+        sums
     }
 
     /// Carries out one line; gives the line to print, if there is one.
@@ -167,6 +188,7 @@ impl<S: Store> Session<S> {
         let slot = if word == "list" { words.number()? } else { 0 };
         let mut output = lent(if word == "find" { 0 } else { words.length()? });
         words.done()?;
+        let edition = Edition::of_image(&self.image);
         let (refusal, numbers) = match word {
             "open" => opened(self.store.open(&self.image, &mut output)),
             "find" => found(self.store.find(&self.image, &path)),
@@ -177,19 +199,22 @@ impl<S: Store> Session<S> {
             }
         };
         let shown = (word != "find").then_some(output);
+        self.count(word, refusal, edition);
         Ok(self.answer(word, refusal, &numbers, shown.as_deref()))
     }
 
     fn write(&mut self, word: &str, mut words: Words) -> Result<String, String> {
+        let version = if word == "format" { words.number()? } else { 0 };
         let block = if word == "format" { words.number()? } else { 0 };
         let reserved = if word == "format" { words.number()? } else { 0 };
         let path = if word == "reclaim" { Vec::new() } else { words.bytes()? };
         let stamp = words.number()?;
         let bytes = if word == "mkfile" { words.data()? } else { Vec::new() };
         words.done()?;
+        let edition = if word == "format" { Edition::of_version(version) } else { Edition::of_image(&self.image) };
         let (store, image) = (&self.store, &mut self.image);
         let (answer, told) = match word {
-            "format" => (store.format(image, block, reserved, &path, stamp), Told::Format { block }),
+            "format" => (store.format(image, version, block, reserved, &path, stamp), Told::Format { version, block }),
             "mkfile" => (store.create_file(image, &path, stamp, &bytes), Told::File { path: &path, bytes: &bytes }),
             "mkdir" => (store.create_directory(image, &path, stamp), Told::Directory { path: &path }),
             "delete" => (store.delete(image, &path, stamp), Told::Delete { path: &path }),
@@ -197,6 +222,7 @@ impl<S: Store> Session<S> {
             _ => (store.reclaim(image, stamp), Told::Reclaim),
         };
         self.tell(told, answer.refusal == 0);
+        self.count(word, answer.refusal, edition);
         Ok(self.answer(word, answer.refusal, &[], None))
     }
 
@@ -204,7 +230,7 @@ impl<S: Store> Session<S> {
     fn tell(&mut self, told: Told, accepted: bool) {
         match (&mut self.history, told) {
             (Some(history), _) => history.tell(told, accepted),
-            (None, Told::Format { block }) if accepted => self.history = Some(History::begin(block)),
+            (None, Told::Format { version, block }) if accepted => self.history = Some(History::begin(version, block)),
             _ => {}
         }
     }
@@ -213,6 +239,7 @@ impl<S: Store> Session<S> {
         words.done()?;
         let text = self.store.listing(&self.image);
         self.calls += 1;
+        self.count_by_call("listing", refused(&text), Edition::of_image(&self.image));
         Ok(format!("listing {}{}{}", text.len(), self.shown("text", &text), self.shown("img", &self.image)))
     }
 
@@ -224,13 +251,18 @@ impl<S: Store> Session<S> {
         }
     }
 
-    fn answer(&mut self, word: &str, refusal: Refusal, numbers: &[i128], output: Option<&[u8]>) -> String {
+    fn count(&mut self, word: &str, refusal: Refusal, edition: Option<Edition>) {
         self.calls += 1;
         self.last = refusal;
-        let by_word = self.by_word.entry(word.to_string()).or_default();
-        for counts in [&mut self.met, by_word] {
-            counts.get_mut(usize::from(refusal)).into_iter().for_each(|count| *count += 1);
-        }
+        add_one(&mut self.met, refusal);
+        self.count_by_call(word, refusal, edition);
+    }
+
+    fn count_by_call(&mut self, word: &str, refusal: Refusal, edition: Option<Edition>) {
+        add_one(self.by_call.entry((word.to_string(), edition)).or_default(), refusal);
+    }
+
+    fn answer(&self, word: &str, refusal: Refusal, numbers: &[i128], output: Option<&[u8]>) -> String {
         let numbers: String = numbers.iter().map(|number| format!(" {number}")).collect();
         let output = output.map_or(String::new(), |output| self.shown("out", output));
         format!("{word} {refusal}{numbers}{output}{}", self.shown("img", &self.image))
@@ -245,6 +277,16 @@ impl<S: Store> Session<S> {
     }
 }
 
+fn add_one(counts: &mut Counts, refusal: Refusal) {
+    counts.get_mut(usize::from(refusal)).into_iter().for_each(|count| *count += 1);
+}
+
+/// The refusal number that a listing's text gives. A volume of such a name has a line of counts besides.
+fn refused(text: &[u8]) -> Refusal {
+    let number = std::str::from_utf8(text).ok().and_then(|text| text.strip_prefix("refused ")?.strip_suffix('\n'));
+    number.and_then(|number| number.parse().ok()).unwrap_or(0)
+}
+
 type Numbers = (Refusal, Vec<i128>);
 
 fn opened(answer: Opened) -> Numbers {
@@ -252,7 +294,7 @@ fn opened(answer: Opened) -> Numbers {
     let mut numbers = vec![i128::from(answer.version)];
     numbers.extend(sizes.map(i128::from));
     numbers.extend([answer.super_block_stamp, answer.volume_stamp].map(i128::from));
-    numbers.push(answer.name_length.into());
+    numbers.extend([answer.name_length.into(), i128::from(answer.edition)]);
     (answer.refusal, numbers)
 }
 

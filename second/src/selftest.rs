@@ -1,8 +1,10 @@
 //! Generated histories, run and checked in one go.
 
+use crate::edition::Edition;
 use crate::generator;
-use crate::refusal::{Counts, OF_RESTORE};
-use crate::script::Session;
+use crate::refusal::{Counts, Refusal, OF_1_10, OF_RESTORE};
+use crate::script::{Called, Session};
+use std::collections::BTreeMap;
 use std::fmt;
 
 /// What a run of generated scripts met.
@@ -16,6 +18,8 @@ pub struct Tally {
     pub met: Counts,
     /// The same for the restores alone.
     pub restores: Counts,
+    /// The same for the calls on images of edition 1.10 alone, formats and listings left out.
+    pub newer: Counts,
     pub failures: Vec<String>,
 }
 
@@ -52,6 +56,7 @@ fn run_one(script: String, place: u64, tally: &mut Tally) {
     tally.calls += session.calls;
     add(&mut tally.met, &session.met);
     add(&mut tally.restores, &session.answers("restore"));
+    add(&mut tally.newer, &session.answers_in(Edition::V1_10));
 }
 
 fn add(sums: &mut Counts, more: &Counts) {
@@ -60,7 +65,26 @@ fn add(sums: &mut Counts, more: &Counts) {
 
 /// A line for each number that restore can answer.
 pub fn restore_table(counts: &Counts) -> String {
-    OF_RESTORE.iter().map(|number| format!("restore {number} met {}\n", counts[usize::from(*number)])).collect()
+    table("restore", &OF_RESTORE, counts)
+}
+
+/// A line for each number that a call on a volume of edition 1.10 can answer.
+pub fn newer_table(counts: &Counts) -> String {
+    table("edition 1.10", &OF_1_10, counts)
+}
+
+/// A line for each call, edition and number that was met: word, edition, number, how often.
+pub fn call_table(met: &BTreeMap<Called, Counts>) -> String {
+    let lines = met.iter().flat_map(|((word, edition), counts)| {
+        let edition = edition.map_or("none", Edition::name);
+        let met = counts.iter().enumerate().filter(|(_, count)| **count > 0);
+        met.map(move |(number, count)| format!("{word} {edition} {number} {count}\n"))
+    });
+    lines.collect()
+}
+
+fn table(what: &str, numbers: &[Refusal], counts: &Counts) -> String {
+    numbers.iter().map(|number| format!("{what} {number} met {}\n", counts[usize::from(*number)])).collect()
 }
 
 impl fmt::Display for Tally {
@@ -70,6 +94,7 @@ impl fmt::Display for Tally {
             writeln!(text, "refusal {number} met {met}")?;
         }
         text.write_str(&restore_table(&self.restores))?;
+        text.write_str(&newer_table(&self.newer))?;
         writeln!(text, "scripts {} calls {}", self.scripts, self.calls)
     }
 }

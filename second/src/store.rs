@@ -3,7 +3,15 @@
 use crate::answer::{Found, Listed, Opened, Read, Written};
 
 pub trait Store {
-    fn format(&self, image: &mut [u8], bytes_per_block: u64, reserved: u64, name: &[u8], stamp: i64) -> Written;
+    fn format(
+        &self,
+        image: &mut [u8],
+        version: u64,
+        bytes_per_block: u64,
+        reserved: u64,
+        name: &[u8],
+        stamp: i64,
+    ) -> Written;
     fn open(&self, image: &[u8], output: &mut [u8]) -> Opened;
     fn find(&self, image: &[u8], path: &[u8]) -> Found;
     fn list(&self, image: &[u8], slot: u64, output: &mut [u8]) -> Listed;
@@ -21,8 +29,16 @@ pub trait Store {
 pub struct Own;
 
 impl Store for Own {
-    fn format(&self, image: &mut [u8], bytes_per_block: u64, reserved: u64, name: &[u8], stamp: i64) -> Written {
-        crate::format(image, bytes_per_block, reserved, name, stamp)
+    fn format(
+        &self,
+        image: &mut [u8],
+        version: u64,
+        bytes_per_block: u64,
+        reserved: u64,
+        name: &[u8],
+        stamp: i64,
+    ) -> Written {
+        crate::format(image, version, bytes_per_block, reserved, name, stamp)
     }
 
     fn open(&self, image: &[u8], output: &mut [u8]) -> Opened {

@@ -1,8 +1,10 @@
 //! The super-block and the geometry it stores: refusals 1 to 5.
 
-use crate::bytes::{get_i64, get_u32, get_u64, get_u8, put};
+use crate::bytes::{get_i64, get_u32, get_u64, get_u8, put, sum};
+use crate::edition::Edition;
 use crate::refusal::{self, Refusal};
 
+/// Where edition 1.0 has the fields; `Edition::super_field` says where they are.
 pub const STAMP: usize = 0x194;
 pub const DATA: usize = 0x19C;
 pub const INDEX: usize = 0x1A4;
@@ -14,17 +16,17 @@ pub const BLOCK_SIZE: usize = 0x1BC;
 pub const CHECKSUM: usize = 0x1BD;
 
 pub const MAGIC_BYTES: &[u8] = b"SFS";
-pub const VERSION_1_0: u8 = 0x10;
 pub const LEAST_IMAGE: usize = 512;
 pub const MOST_IMAGE: usize = 16_777_216;
 pub const LEAST_INDEX: u64 = 128;
 pub const MOST_INDEX: u64 = 262_144;
 pub const SLOT: u64 = 64;
 
-/// The sizes of a volume. `image` and `index` are bytes, `block` is bytes per block, and the other
-/// three are counts of blocks.
+/// The edition and the sizes of a volume. `image` and `index` are bytes, `block` is bytes per block, and
+/// the other three are counts of blocks.
 #[derive(Clone, Copy, Debug, PartialEq, Eq)]
 pub struct Geometry {
+    pub edition: Edition,
     pub image: u64,
     pub block: u64,
     pub total: u64,
@@ -95,14 +97,16 @@ impl Geometry {
     }
 
     /// The geometry the fields hold, good or not; nothing when the block size field is out of range.
-    pub fn stored(image: &[u8]) -> Option<Geometry> {
+    pub fn stored(image: &[u8], edition: Edition) -> Option<Geometry> {
+        let at = |field| edition.super_field(field);
         Some(Geometry {
+            edition,
             image: image.len() as u64,
-            block: block_length(get_u8(image, BLOCK_SIZE))?,
-            total: get_u64(image, TOTAL),
-            reserved: u64::from(get_u32(image, RESERVED)),
-            data: get_u64(image, DATA),
-            index: get_u64(image, INDEX),
+            block: block_length(get_u8(image, at(BLOCK_SIZE)))?,
+            total: get_u64(image, at(TOTAL)),
+            reserved: u64::from(get_u32(image, at(RESERVED))),
+            data: get_u64(image, at(DATA)),
+            index: get_u64(image, at(INDEX)),
         })
     }
 }
@@ -111,10 +115,10 @@ pub fn length_allowed(length: usize) -> bool {
     (LEAST_IMAGE..=MOST_IMAGE).contains(&length)
 }
 
-/// The sum, modulo 256, of the bytes the checksum covers up to but without `end`.
-pub fn sum(image: &[u8], end: usize) -> u8 {
-    let covered = image.get(MAGIC..end).unwrap_or(&[]);
-    covered.iter().fold(0, |sum, byte| sum.wrapping_add(*byte))
+/// The checksum that is right for the other fields it covers.
+pub fn checksum(image: &[u8], edition: Edition) -> u8 {
+    let covered = edition.super_field(MAGIC)..edition.super_field(CHECKSUM);
+    sum(image.get(covered).unwrap_or(&[])).wrapping_neg()
 }
 
 /// Judges refusals 1 to 5, in that order.
@@ -122,33 +126,33 @@ pub fn judge(image: &[u8]) -> Result<SuperBlock, Refusal> {
     if !length_allowed(image.len()) {
         return Err(refusal::IMAGE_LENGTH);
     }
-    if image.get(MAGIC..VERSION) != Some(MAGIC_BYTES) {
-        return Err(refusal::MAGIC);
+    let edition = Edition::of_image(image).ok_or(refusal::MAGIC)?;
+    let version = get_u8(image, edition.super_field(VERSION));
+    if !edition.reads(version) {
+        return Err(refusal::OTHER_VERSION);
     }
-    let version = get_u8(image, VERSION);
-    if version < VERSION_1_0 {
-        return Err(refusal::OLD_VERSION);
-    }
-    if sum(image, CHECKSUM + 1) != 0 {
+    if get_u8(image, edition.super_field(CHECKSUM)) != checksum(image, edition) {
         return Err(refusal::CHECKSUM);
     }
-    let geometry = Geometry::stored(image).filter(Geometry::is_good).ok_or(refusal::GEOMETRY)?;
-    Ok(SuperBlock { version, stamp: get_i64(image, STAMP), geometry })
+    let geometry = Geometry::stored(image, edition).filter(Geometry::is_good).ok_or(refusal::GEOMETRY)?;
+    Ok(SuperBlock { version, stamp: get_i64(image, edition.super_field(STAMP)), geometry })
 }
 
-/// Writes every field of a version 1.0 super-block, the checksum last.
+/// Writes every field of a super-block, the checksum last.
 pub fn write(image: &mut [u8], geometry: &Geometry, stamp: i64) {
+    let edition = geometry.edition;
+    let at = |field| edition.super_field(field);
     let reserved = u32::try_from(geometry.reserved).unwrap_or(u32::MAX);
-    put(image, STAMP, &stamp.to_le_bytes());
-    put(image, DATA, &geometry.data.to_le_bytes());
-    put(image, INDEX, &geometry.index.to_le_bytes());
-    put(image, MAGIC, MAGIC_BYTES);
-    put(image, VERSION, &[VERSION_1_0]);
-    put(image, TOTAL, &geometry.total.to_le_bytes());
-    put(image, RESERVED, &reserved.to_le_bytes());
-    put(image, BLOCK_SIZE, &[block_field(geometry.block).unwrap_or(0)]);
-    let checksum = sum(image, CHECKSUM).wrapping_neg();
-    put(image, CHECKSUM, &[checksum]);
+    put(image, at(STAMP), &stamp.to_le_bytes());
+    put(image, at(DATA), &geometry.data.to_le_bytes());
+    put(image, at(INDEX), &geometry.index.to_le_bytes());
+    put(image, at(MAGIC), MAGIC_BYTES);
+    put(image, at(VERSION), &[edition.version()]);
+    put(image, at(TOTAL), &geometry.total.to_le_bytes());
+    put(image, at(RESERVED), &reserved.to_le_bytes());
+    put(image, at(BLOCK_SIZE), &[block_field(geometry.block).unwrap_or(0)]);
+    let checksum = checksum(image, edition);
+    put(image, at(CHECKSUM), &[checksum]);
 }
 
 /// Writes the two sizes that calls may change. The stamp tells of a change of size, so an equal
@@ -157,7 +161,8 @@ pub fn write_sizes(image: &mut [u8], old: &Geometry, new: &Geometry, stamp: i64)
     if old.data == new.data && old.index == new.index {
         return;
     }
-    put(image, STAMP, &stamp.to_le_bytes());
-    put(image, DATA, &new.data.to_le_bytes());
-    put(image, INDEX, &new.index.to_le_bytes());
+    let at = |field| old.edition.super_field(field);
+    put(image, at(STAMP), &stamp.to_le_bytes());
+    put(image, at(DATA), &new.data.to_le_bytes());
+    put(image, at(INDEX), &new.index.to_le_bytes());
 }

@@ -5,7 +5,7 @@ use crate::names;
 use crate::paths::LivePaths;
 use crate::refusal::{self, Refusal};
 use crate::regions::{self, Region};
-use crate::superblock::{self, SuperBlock, VERSION_1_0};
+use crate::superblock::{self, SuperBlock};
 
 #[derive(Clone, Debug)]
 pub struct Volume<'a> {
@@ -28,10 +28,12 @@ impl<'a> Volume<'a> {
 
     /// Refusal 9: a call that may write meets a newer version, whatever it would do further on.
     pub fn judge_writable(&self) -> Result<(), Refusal> {
-        if self.super_block.version > VERSION_1_0 {
-            return Err(refusal::NEWER_VERSION);
+        let SuperBlock { version, geometry, .. } = self.super_block;
+        if geometry.edition.writes(version) {
+            Ok(())
+        } else {
+            Err(refusal::NEWER_VERSION)
         }
-        Ok(())
     }
 
     /// The live entry of a path argument: refusals 10 and 11.
@@ -40,7 +42,8 @@ impl<'a> Volume<'a> {
         self.live.get(path).ok_or(refusal::NOT_LIVE)
     }
 
-    /// The deleted entries of a path argument, one at least: refusals 10 and 11.
+    /// The deleted entries of a path argument, one at least: refusals 10 and 11. An edition that keeps none always
+    /// gives 11.
     pub fn lookup_deleted(&self, path: &[u8]) -> Result<Vec<&Entry<'a>>, Refusal> {
         judge_path(path)?;
         let deleted: Vec<&Entry> =

@@ -79,10 +79,10 @@ fn the_sixth_empty_file() {
 
 #[test]
 fn small_cases() {
-    assert_eq!(format(&mut vec![0; 4096], 256, 1, b"", 0).refusal, 5);
-    assert_eq!(format(&mut vec![0; 4096], 256, 2, b"", 0).refusal, 0);
+    assert_eq!(format(&mut vec![0; 4096], 0x10, 256, 1, b"", 0).refusal, 5);
+    assert_eq!(format(&mut vec![0; 4096], 0x10, 256, 2, b"", 0).refusal, 0);
     assert_eq!(all_calls(&[], b"f"), [1; 9]);
-    assert_eq!(format(&mut [], 512, 2, b"", 0).refusal, 1);
+    assert_eq!(format(&mut [], 0x10, 512, 2, b"", 0).refusal, 1);
     let mut image = fresh(4096, 512, 1);
     mkfile(&mut image, b"f", b"");
     assert_eq!(delete(&mut image, b"f", 0).refusal, 0);
@@ -92,7 +92,7 @@ fn small_cases() {
 #[test]
 fn listing_of_term7() {
     let mut image = vec![0; 65_536];
-    assert_eq!(format(&mut image, 512, 2, b"TERM7", 0).refusal, 0);
+    assert_eq!(format(&mut image, 0x10, 512, 2, b"TERM7", 0).refusal, 0);
     assert_eq!(create_directory(&mut image, b"session", 0x3C_0000).refusal, 0);
     assert_eq!(create_file(&mut image, b"session/verified", -1, b"yes").refusal, 0);
     let expected =
@@ -107,7 +107,7 @@ fn listing_of_term7() {
 #[test]
 fn listing_of_odd_volumes() {
     let mut image = vec![0; 4096];
-    format(&mut image, 512, 1, b"", 0);
+    format(&mut image, 0x10, 512, 1, b"", 0);
     assert_eq!(listing(&image), b"\nlive 0 held 0\n");
     mkfile(&mut image, b"\xc3\xbf", &[0; 600]);
     mkfile(&mut image, b"g", &[0; 100]);

@@ -7,6 +7,7 @@ use second::script::{digest, lent, Session};
 use second::selftest;
 use second::superblock::Geometry;
 use second::xorshift::{fill, Xorshift};
+use second::Edition;
 use std::collections::{BTreeMap, HashMap};
 
 #[test]
@@ -22,7 +23,9 @@ fn histories_hold() {
 
 #[test]
 fn scripts_are_the_same_every_time() {
-    for kind in ["history", "damage", "built", "edges", "args", "names", "restore", "tails", "crowded"] {
+    let kinds =
+        ["history", "damage", "built", "edges", "args", "names", "restore", "tails", "crowded", "sums", "editions"];
+    for kind in kinds {
         let script = generator::script(3, 200, Some(kind));
         assert!(script.as_ref().is_some_and(|script| script.len() > 1000));
         assert_eq!(script, generator::script(3, 200, Some(kind)));
@@ -53,7 +56,7 @@ fn named_calls(kind: &str) -> Vec<NamedCall> {
         session.execute(line).unwrap();
         let words: Vec<&str> = line.split(' ').collect();
         let name = match words[0] {
-            "format" => words[3],
+            "format" => words[4],
             "find" | "read" | "mkfile" | "mkdir" | "delete" | "restore" => words[1],
             _ => continue,
         };
@@ -67,7 +70,7 @@ fn unhex(word: &str) -> Vec<u8> {
     (0..digits.len()).step_by(2).map(|at| u8::from_str_radix(&digits[at..at + 2], 16).unwrap()).collect()
 }
 
-/// Whether a character of the name lies across the end of a slot of its entry.
+/// Whether a character of the name lies across the end of a slot of its entry, as edition 1.0 has them.
 fn straddles(word: &str, name: &[u8]) -> bool {
     let first = if word == "mkdir" { 54 } else { 30 };
     (first..name.len()).step_by(64).any(|end| (0x80..0xC0).contains(&name[end]))
@@ -172,7 +175,8 @@ struct Deleted {
 }
 
 fn index_size(session: &Session) -> u64 {
-    Geometry::stored(session.image()).map_or(0, |geometry| geometry.index)
+    let edition = Edition::of_image(session.image()).unwrap_or_default();
+    Geometry::stored(session.image(), edition).map_or(0, |geometry| geometry.index)
 }
 
 /// In what situations an accepted restore came.
@@ -195,7 +199,7 @@ fn count_situations(kind: &str) -> BTreeMap<&'static str, u64> {
     let mut session = Session::without_digests();
     let mut deleted = HashMap::new();
     let mut counts = BTreeMap::new();
-    for line in generator::script(6, 12_000, Some(kind)).unwrap_or_default().lines() {
+    for line in generator::script(6, 20_000, Some(kind)).unwrap_or_default().lines() {
         let words: Vec<&str> = line.split(' ').collect();
         let (calls, index, image) = (session.calls + 1, index_size(&session), digest(session.image()));
         session.execute(line).unwrap();
@@ -261,16 +265,16 @@ fn lines_are_as_described() {
     assert_eq!(lent(4), [0xA5, 0xA2, 0xAB, 0xB0]);
     assert_eq!(fill(3, 0), fill(3, 0x9E37_79B9_7F4A_7C15));
     let script =
-        "# nothing\n\nopen 0\nimage 8192\nhistory\nformat 512 1 5445 -5\nopen 3\nmkfile 61 9 616263\nlist 0 1\n\
+        "# nothing\n\nopen 0\nimage 8192\nhistory\nformat 16 512 1 5445 -5\nopen 3\nmkfile 61 9 616263\nlist 0 1\n\
                   read 61 2\nfind 61\nhistory\npoke 9000 00\nhistory\n";
     let lines = printed(script);
     let bare: Vec<&str> =
         lines.iter().map(|line| line.split(" out=").next().unwrap().split(" img=").next().unwrap()).collect();
     let expected = [
-        "open 1 0 0 0 0 0 0 0 0 0",
+        "open 1 0 0 0 0 0 0 0 0 0 0",
         "history none",
         "format 0",
-        "open 0 16 16 1 512 0 128 -5 -5 2",
+        "open 0 16 16 1 512 0 128 -5 -5 2 16",
         "mkfile 0",
         "list 0 1 18 1 2 3 9 1",
         "read 18 0",
@@ -279,7 +283,7 @@ fn lines_are_as_described() {
         "history none",
     ];
     assert_eq!(bare, expected);
-    assert_eq!(lines[0], "open 1 0 0 0 0 0 0 0 0 0 out=cbf29ce484222325 img=cbf29ce484222325");
+    assert_eq!(lines[0], "open 1 0 0 0 0 0 0 0 0 0 0 out=cbf29ce484222325 img=cbf29ce484222325");
 }
 
 #[test]
@@ -307,7 +311,7 @@ fn any_image_gets_an_answer() {
     let mut met = Counts::default();
     for round in 0..4_000 {
         let mut session = Session::default();
-        let mut lines = vec!["image 2048".to_string(), "format 256 2 - 0".to_string()];
+        let mut lines = vec!["image 2048".to_string(), "format 16 256 2 - 0".to_string()];
         lines.push(format!("poke {} {:02x}", 0x1A4, 128 + 64 * rng.below(2)));
         for _ in 0..rng.below(12) {
             let at = if rng.chance(80) { 2048 - rng.below(256) } else { 0x194 + rng.below(42) };
@@ -338,8 +342,8 @@ fn any_image_gets_an_answer() {
 #[test]
 fn the_check_notices() {
     let mut image = vec![0; 8192];
-    assert_eq!(second::format(&mut image, 512, 1, b"", 0).refusal, 0);
-    let mut history = History::begin(512);
+    assert_eq!(second::format(&mut image, 0x10, 512, 1, b"", 0).refusal, 0);
+    let mut history = History::begin(0x10, 512);
     for (path, bytes) in [(b"a", [1; 600]), (b"b", [2; 600])] {
         assert_eq!(second::create_file(&mut image, path, 0, &bytes).refusal, 0);
         history.tell(Told::File { path, bytes: &bytes }, true);

@@ -81,7 +81,7 @@ fn holding_volume_name(name: &[u8]) -> Vec<u8> {
 }
 
 fn formats(name: &[u8]) -> u8 {
-    format(&mut [0; 1024], 256, 2, name, 0).refusal
+    format(&mut [0; 1024], 0x10, 256, 2, name, 0).refusal
 }
 
 #[test]
@@ -129,7 +129,7 @@ fn stored_volume_names() {
 #[test]
 fn the_branch_at_the_square() {
     let mut image = vec![0; 8192];
-    assert_eq!(format(&mut image, 512, 1, A_PAGE, 0).refusal, 0);
+    assert_eq!(format(&mut image, 0x10, 512, 1, A_PAGE, 0).refusal, 0);
     let mut output = [0xEE; 11];
     assert_eq!(open(&image, &mut output).name_length, 10);
     assert_eq!((&output[..10], output[10]), (A_PAGE, 0xEE));

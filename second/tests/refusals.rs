@@ -63,7 +63,7 @@ fn newer_versions_are_only_read() {
         assert_eq!(all_calls(&image, b""), [0, 10, 0, 10, 9, 9, 9, 9, 9]);
         let gone = entry_at(&image, b"d");
         assert_eq!(all_calls(&with(&image, gone, &[0x19]), b"g"), [8; 9]);
-        assert_eq!(format(&mut image, 512, 1, b"", 0).refusal, 0);
+        assert_eq!(format(&mut image, 0x10, 512, 1, b"", 0).refusal, 0);
         assert_eq!(image[VERSION], 0x10);
     }
 }
@@ -151,7 +151,7 @@ fn outputs_of_open_and_list() {
 fn format_in_order() {
     let refused = |length: usize, block: u64, reserved: u64, name: &[u8]| {
         let mut image = vec![0xEE; length];
-        let number = format(&mut image, block, reserved, name, 3).refusal;
+        let number = format(&mut image, 0x10, block, reserved, name, 3).refusal;
         assert!(number == 0 || image.iter().all(|byte| *byte == 0xEE));
         number
     };
@@ -181,7 +181,7 @@ fn format_in_order() {
 #[test]
 fn format_writes_its_bytes_only() {
     let mut image = vec![0xEE; 4096];
-    assert_eq!(format(&mut image, 1024, 2, b"ab", -2).refusal, 0);
+    assert_eq!(format(&mut image, 0x10, 1024, 2, b"ab", -2).refusal, 0);
     let untouched = image[..0x194].iter().chain(&image[0x1BE..4096 - 128]).all(|byte| *byte == 0xEE);
     assert!(untouched);
     assert_eq!(number(&image, 0x194), u64::MAX - 1);

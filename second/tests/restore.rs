@@ -264,7 +264,7 @@ fn gone_after_a_reclaim() {
     assert_eq!(back(&mut image, b"a"), 11);
     gone(&mut image, b"a");
     assert_eq!(back(&mut image.clone(), b"a"), 0);
-    assert_eq!(format(&mut image, 512, 1, b"", 0).refusal, 0);
+    assert_eq!(format(&mut image, 0x10, 512, 1, b"", 0).refusal, 0);
     assert_eq!(back(&mut image, b"a"), 11);
 }
 
@@ -391,7 +391,7 @@ fn plays(story: &[(&str, &str)]) -> Session {
 /// Lines and what they print.
 const STORY: [(&str, &str); 36] = [
     ("image 8192", ""),
-    ("format 512 1 - 0", "format 0"),
+    ("format 16 512 1 - 0", "format 0"),
     ("mkfile 61 1 fill:600:1", "mkfile 0"),
     ("mkdir 64 1", "mkdir 0"),
     ("mkfile 642f66 1 fill:700:2", "mkfile 0"),
@@ -426,7 +426,7 @@ const STORY: [(&str, &str); 36] = [
     ("delete 62 9", "delete 0"),
     ("reclaim 9", "reclaim 0"),
     ("history", "history ok"),
-    ("open 0", "open 0 16 16 1 512 0 384 9 0 0"),
+    ("open 0", "open 0 16 16 1 512 0 384 9 0 0 16"),
 ];
 
 #[test]
@@ -443,7 +443,7 @@ fn history_over_a_story() {
 #[test]
 fn history_notices() {
     let mut image = fresh(8192, 512, 1);
-    let mut history = History::begin(512);
+    let mut history = History::begin(0x10, 512);
     mkfile(&mut image, b"a", &[1; 600]);
     history.tell(Told::File { path: b"a", bytes: &[1; 600] }, true);
     gone(&mut image, b"a");
@@ -477,7 +477,7 @@ fn history_notices() {
 #[test]
 fn lines_of_a_script() {
     let mut session = Session::default();
-    for line in ["image 1024", "format 256 2 - 0", "mkfile 61 5 -"] {
+    for line in ["image 1024", "format 16 256 2 - 0", "mkfile 61 5 -"] {
         session.execute(line).unwrap();
     }
     let made = session.execute("find 61").unwrap().unwrap();

@@ -67,7 +67,7 @@ fn differences(one: &[u8], other: &[u8]) -> Vec<usize> {
 }
 
 fn run_of(image: &[u8], geometry: &Geometry, entry: &Entry) -> Option<Run> {
-    let name_at = index::name_at(entry.kind)?;
+    let name_at = index::name_at(geometry.edition, entry.kind)?;
     let at = geometry.slot_offset(entry.slot);
     let end = at + 64 * entry.slots as usize;
     let field = image[at + name_at..end].to_vec();

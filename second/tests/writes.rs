@@ -9,7 +9,7 @@ use second::{create_directory, create_file, delete, find, format, list, open, re
 #[test]
 fn growth_moves_the_marker() {
     let mut image = vec![0xEE; 8192];
-    format(&mut image, 512, 1, b"", 7);
+    format(&mut image, 0x10, 512, 1, b"", 7);
     assert_eq!(create_file(&mut image, &[b'n'; 40], -3, b"abc").refusal, 0);
     assert_eq!(index_size(&image), 256);
     assert_eq!((number(&image, STAMP), data_size(&image)), (-3i64 as u64, 1));

@@ -3,6 +3,7 @@
 use super::volumes::BYTES;
 use super::{best, millis, PROGRAMS};
 use second::store::Store;
+use second::Edition;
 use std::hint::black_box;
 
 /// A directory of the longest name: it starts at 10 in the first slot and fills 255 more, its zero apart.
@@ -36,7 +37,7 @@ fn judged(store: &dyn Store, image: &[u8]) -> String {
 /// A directory of so long a name is written by hand: a create takes no more than 285 bytes.
 fn named_volume(pattern: &str) -> Result<Vec<u8>, String> {
     let mut image = vec![0; BYTES];
-    if second::format(&mut image, 512, 1, b"BENCH", 0).refusal != 0 {
+    if second::format(&mut image, Edition::V1_0.version().into(), 512, 1, b"BENCH", 0).refusal != 0 {
         return Err("format was refused".to_string());
     }
     let index = 64 + RUN + 64;

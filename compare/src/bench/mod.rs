@@ -1,11 +1,13 @@
-//! The calls, timed on volumes of several looks and sizes: the programs one after the other, in one run. A line for each volume, size,
-//! call and program, times in milliseconds, fields parted by tabs.
+//! The calls, timed on volumes of several looks and sizes and of both editions: the programs one after the other, in one run. A line for
+//! each volume, size, call and program, times in milliseconds, fields parted by tabs.
 
 mod long_name;
 mod volumes;
 
 use crate::library::Library;
+use second::refusal::{Refusal, NOT_LIVE, SUCCESS};
 use second::store::{Own, Store};
+use second::Edition;
 use std::hint::black_box;
 use std::time::{Duration, Instant};
 use volumes::{new_at, Kind, Volume, BIG, BIG_AT, BYTES, GONE, KINDS, MIB};
@@ -26,19 +28,19 @@ const PROGRAMS: &[(&str, &dyn Store)] = &[
     ("second", &Own),
 ];
 
-/// A call on an image, a path of its last slot and room for 1 MiB: whether it answered 0.
-type Call = fn(&dyn Store, &mut [u8], &[u8], &mut [u8]) -> bool;
+/// A call on an image, a path of its last slot and room for 1 MiB.
+type Call = fn(&dyn Store, &mut [u8], &[u8], &mut [u8]) -> Refusal;
 
 /// What each call is timed on: the volume, or one with an entry less for what a create adds.
 const CALLS: [(&str, Call); 8] = [
-    ("open", |store, image, _, out| black_box(store.open(image, out)).refusal == 0),
-    ("find", |store, image, path, _| black_box(store.find(image, path)).refusal == 0),
-    ("list", |store, image, _, out| black_box(store.list(image, 0, out)).refusal == 0),
-    ("read", |store, image, _, out| black_box(store.read(image, BIG, out)).refusal == 0),
-    ("create", |store, image, _, out| black_box(store.create_file(image, b"new", 1, out)).refusal == 0),
-    ("delete", |store, image, path, _| black_box(store.delete(image, path, 1)).refusal == 0),
-    ("reclaim", |store, image, _, _| black_box(store.reclaim(image, 1)).refusal == 0),
-    ("restore", |store, image, _, _| black_box(store.restore(image, GONE, 1)).refusal == 0),
+    ("open", |store, image, _, out| black_box(store.open(image, out)).refusal),
+    ("find", |store, image, path, _| black_box(store.find(image, path)).refusal),
+    ("list", |store, image, _, out| black_box(store.list(image, 0, out)).refusal),
+    ("read", |store, image, _, out| black_box(store.read(image, BIG, out)).refusal),
+    ("create", |store, image, _, out| black_box(store.create_file(image, b"new", 1, out)).refusal),
+    ("delete", |store, image, path, _| black_box(store.delete(image, path, 1)).refusal),
+    ("reclaim", |store, image, _, _| black_box(store.reclaim(image, 1)).refusal),
+    ("restore", |store, image, _, _| black_box(store.restore(image, GONE, 1)).refusal),
 ];
 
 /// The best times so far, in the order in which they are printed.
@@ -101,6 +103,19 @@ fn copies(table: &mut Table) -> Result<(), String> {
     })
 }
 
+/// What a call answers on these volumes.
+fn wanted(kind: &Kind, call: &str) -> Refusal {
+    match call {
+        "restore" if !kind.edition.keeps_deleted() => NOT_LIVE,
+        _ => SUCCESS,
+    }
+}
+
+/// A library of a commit without edition 1.10 opens no volume of it, and is not timed there.
+fn is_timed(program: &str, store: &dyn Store, edition: Edition, image: &[u8]) -> bool {
+    program != "before" || edition == Edition::V1_0 || store.open(image, &mut [0; 51]).refusal == SUCCESS
+}
+
 /// All calls on volumes of this look, and one pass over the index bytes.
 fn timed(kind: &Kind, entries: usize, table: &mut Table) -> Result<(), String> {
     let full = kind.volume(entries)?;
@@ -110,15 +125,16 @@ fn timed(kind: &Kind, entries: usize, table: &mut Table) -> Result<(), String> {
     table.measure(format!("{}\t{entries}\tpass\tmachine", kind.name), || best(ROUNDS, sum))?;
     for (name, call) in CALLS {
         let volume = if name == "create" { &less } else { &full };
-        for (program, store) in PROGRAMS {
-            table.measure(format!("{}\t{entries}\t{name}\t{program}", kind.name), || best_on(volume, *store, call))?;
+        for (program, store) in PROGRAMS.iter().filter(|(program, store)| is_timed(program, *store, kind.edition, &full.image)) {
+            let fields = format!("{}\t{entries}\t{name}\t{program}", kind.name);
+            table.measure(fields, || best_on(volume, *store, call, wanted(kind, name)))?;
         }
     }
     Ok(())
 }
 
 /// The best time of a call on the volume, whose super-block and index are laid anew each time.
-fn best_on(volume: &Volume, store: &dyn Store, call: Call) -> Result<Duration, String> {
+fn best_on(volume: &Volume, store: &dyn Store, call: Call, wanted: Refusal) -> Result<Duration, String> {
     let mut image = volume.image.clone();
     let mut out = vec![7; MIB];
     let index = BYTES - volume.index - 64;
@@ -128,10 +144,10 @@ fn best_on(volume: &Volume, store: &dyn Store, call: Call) -> Result<Duration, S
         image[..512].copy_from_slice(&volume.image[..512]);
         image[index..].copy_from_slice(&volume.image[index..]);
         let start = Instant::now();
-        let done = call(store, black_box(&mut image), black_box(&volume.last), black_box(&mut out));
+        let answer = call(store, black_box(&mut image), black_box(&volume.last), black_box(&mut out));
         let time = start.elapsed();
-        if !done {
-            return Err("a call of the benchmark was refused".to_string());
+        if answer != wanted {
+            return Err(format!("a call of the benchmark answered {answer}"));
         }
         least = least.min(time);
         spent += time;

@@ -1,33 +1,39 @@
--- An accepted delete leaves an image that opens, with its entry marked deleted.
+-- An accepted delete leaves an image that opens, with its entry marked deleted, or struck where deleted entries are not kept.
 use Prim.Native.Nat.{ℕ}
-use mathlib.Core.Path.{_≡_, refl, subst, _∙_}
+use mathlib.Core.Path.{_≡_, refl, ap, subst, _∙_}
 use mathlib.Core.Bool.{Bool, true, false, _&&_, not}
-use mathlib.Core.List.{List, map}
+use mathlib.Core.List.{List, _∷_, _++_, map}
 use mathlib.Core.Option.{some}
 use native.Mathlib.Omega.{arith}
 use borrow.Author.Tests.{not-true}
 use lib.IntN.{ℤ}
-use Rattle.rules.specs.Lists.{eqList, All}
-use Rattle.rules.specs.Lists.Laws.{and-true}
+use Rattle.rules.specs.Lists.{pick, only, eqList, All}
+use Rattle.rules.specs.Lists.Laws.{and-true, pick-true, pick-false}
+use Rattle.rules.specs.Fields.{splice}
+use Rattle.rules.specs.Editions.{keepsDeleted}
 use Rattle.rules.specs.SuperBlock.{blockLength}
 use Rattle.rules.specs.SuperBlock.Laws.{storedStamp}
 use Rattle.rules.specs.Names.{pathGood}
-use Rattle.rules.specs.Index.{Entry, entriesOf, slotAt}
+use Rattle.rules.specs.Index.{Entry, entry, entriesOf, slotAt, unusedBytes, retyped}
 use Rattle.rules.specs.Paths.{isLive, liveAt, lookup, anyBelow, pathsSound}
 use Rattle.rules.specs.Refusals.{accepted, Volume, entries, judge}
 use Rattle.rules.specs.Refusals.Laws.{Opens, judge-opens}
 use Rattle.rules.specs.Writing.{Written, deleteOf, deletedKind, deleted}
-use Rattle.rules.specs.History.{marked}
+use Rattle.rules.specs.Writing.Laws.{tidyImage}
+use Rattle.rules.specs.History.{keptAt, marked}
 use Rattle.after.specs.After.{seen, Left, sight, unusables, AfterDelete}
-use Rattle.laws.proofs.Lists.Every.{all-of}
+use Rattle.laws.proofs.Lists.Every.{all-of, pick-by}
 use Rattle.laws.proofs.Index.Entries.{retypedEntry}
-use Rattle.laws.proofs.Index.Places.{Found, first-split}
+use Rattle.laws.proofs.Index.Places.{Found, first-split, entriesOf-append}
 use Rattle.laws.proofs.Entries.EntryKinds.{deleted-gone}
 use Rattle.laws.proofs.Entries.Paths.{liveAt-says, live-alone, paths-says}
 use Rattle.laws.proofs.Entries.Retyping.{retype-by}
 use Rattle.laws.proofs.Entries.Deleting.{deleteAt, deletes, delete-paths}
 use Rattle.laws.proofs.Images.Accepted.{passed-need, passed-found, passed-writable, passed-done}
-use Rattle.after.proofs.Retype.Left.{entries-before, retype-left}
+use Rattle.laws.proofs.Images.Tidying.{settledVolume, settled-entries, opens-settled, tidied-kept, tidied-opens}
+use Rattle.after.proofs.Tidied.{sight-tidied, unusables-tidied}
+use Rattle.after.proofs.Retype.Left.{retype-left}
+use Rattle.after.proofs.Strike.{volume, strike-opens, strike-left}
 
 -- ---- what an accepted delete has passed
 pub record DeletePassed (s : List ℕ) (v : Volume) (path : List ℕ) (stamp : ℤ) : Type 0 where
@@ -35,7 +41,7 @@ pub record DeletePassed (s : List ℕ) (v : Volume) (path : List ℕ) (stamp : �
   pub it : Entry
   pub found : lookup path (entries v) ≡ some it
   pub alone : anyBelow path (entries v) ≡ false
-  pub image : deleteOf s path stamp .image ≡ deleted s (slotAt s (v .geometry) (it .slot)) it stamp
+  pub image : deleteOf s path stamp .image ≡ deleted (v .geometry .edition) (tidyImage s v) (slotAt (tidyImage s v) (v .geometry) (it .slot)) it stamp
 
 pub delete-passed : (s : List ℕ) (v : Volume) (path : List ℕ) (stamp : ℤ) → judge s ≡ accepted v → deleteOf s path stamp .refusal ≡ 0
     → DeletePassed s v path stamp
@@ -64,34 +70,88 @@ mark path stamp e =
     (λ h. deleted-gone (e .kind) ∙ both-fail (isLive e) (eqList (e .path) path) h)
     (λ h. not-too (isLive e) (eqList (e .path) path) h)
 
-module _ (s : List ℕ) (v : Volume) (path : List ℕ) (stamp : ℤ) (o : Opens s v) (d : DeletePassed s v path stamp) where
-  pub place : Found (liveAt path) (v .items) (d .it)
+-- found among the items of any volume with these entries
+module _ (s : List ℕ) (v : Volume) (path : List ℕ) (o : Opens s v) (it : Entry) (found : lookup path (entries v) ≡ some it) where
+  pub place : Found (liveAt path) (v .items) it
   unfolding lookup
-  place = first-split (liveAt path) (v .items) (d .it) (d .found)
+  place = first-split (liveAt path) (v .items) it found
 
-  pub live : isLive (d .it) ≡ true
-  live = liveAt-says path (d .it) (place .passes) .0
+  pub live : isLive it ≡ true
+  live = liveAt-says path it (place .passes) .0
 
-  pub at-path : d .it .path ≡ path
-  at-path = liveAt-says path (d .it) (place .passes) .1
-
-  sound : pathsSound (entries v) ≡ true
-  sound = o .paths-sound
+  pub at-path : it .path ≡ path
+  at-path = liveAt-says path it (place .passes) .1
 
   pub others : All (λ e. liveAt path e ≡ false) (entriesOf (place .post))
+  unfolding entriesOf
   others =
-      let differ = paths-says _ (rw (entries-before s v o (liveAt path) deletedKind (deletes path) stamp (d .it) place) at sound) .differ in
+      let whole : entries v ≡ entriesOf (place .pre) ++ (it ∷ entriesOf (place .post)) = ap entriesOf (place .split) ∙ entriesOf-append (place .pre) (entry it ∷ place .post) in
+      let sound : pathsSound (entries v) ≡ true = o .paths-sound in
+      let differ = paths-says _ (rw whole at sound) .differ in
       subst (λ (q : List ℕ). All (λ e. liveAt q e ≡ false) (entriesOf (place .post))) at-path
-      (live-alone (entriesOf (place .pre)) (d .it) (entriesOf (place .post)) differ live .1)
+      (live-alone (entriesOf (place .pre)) it (entriesOf (place .post)) differ live .1)
 
-  left : Left (deleteOf s path stamp .image) (blockLength (v .geometry)) (map (marked path) (sight s v)) (unusables v)
-  unfolding deleted marked seen
-  left =
-      rw (d .image)
-      (retype-left s v o (liveAt path) deletedKind (deletes path) stamp (d .it) place others
-      (delete-paths path (storedStamp stamp) (entries v) (d .alone) sound)
+module _ (s : List ℕ) (v : Volume) (path : List ℕ) (stamp : ℤ) (o : Opens s v) (d : DeletePassed s v path stamp) where
+  -- ---- where deleted entries are kept, its type and its stamp
+  pub image-kept : keepsDeleted (v .geometry .edition) ≡ true
+      → deleteOf s path stamp .image ≡ retyped (v .geometry .edition) s (slotAt s (v .geometry) (d .it .slot)) (deletedKind (d .it .kind)) stamp
+  unfolding deleted
+  image-kept keeps = d .image ∙ rw (tidied-kept s v o keeps) (pick-true _ _ keeps)
+
+  left-marked : keepsDeleted (v .geometry .edition) ≡ true
+      → Left (deleteOf s path stamp .image) (v .geometry .edition) (blockLength (v .geometry)) (map (marked path) (sight s v)) (unusables v)
+  unfolding marked seen
+  left-marked keeps =
+      rw (image-kept keeps)
+      (retype-left s v o keeps (liveAt path) deletedKind (deletes path) stamp (d .it) (place s v path o (d .it) (d .found)) (others s v path o (d .it) (d .found))
+      (delete-paths path (storedStamp stamp) (entries v) (d .alone) (o .paths-sound))
       (λ k. k .live && not (eqList (k .path) path))
       (all-of _ (λ e n. mark path (storedStamp stamp) e) (entries v)))
+
+  -- ---- else unused slots, in the tidied image
+  abbrev t : List ℕ
+  t = tidyImage s v
+
+  abbrev w : Volume
+  w = settledVolume v
+
+  image-struck : keepsDeleted (v .geometry .edition) ≡ false
+      → deleteOf s path stamp .image ≡ splice t (slotAt t (v .geometry) (d .it .slot)) (unusedBytes (v .geometry .edition) (d .it .slots))
+  unfolding deleted
+  image-struck strikes = d .image ∙ pick-false _ _ strikes
+
+  module _ (strikes : keepsDeleted (v .geometry .edition) ≡ false) where
+    o₂ : Opens t w
+    o₂ = tidied-opens s v o
+
+    same : entries w ≡ entries v
+    same = settled-entries (v .items)
+
+    found : lookup path (entries w) ≡ some (d .it)
+    found = ap (lookup path) same ∙ d .found
+
+    alone : anyBelow path (entries w) ≡ false
+    alone = ap (anyBelow path) same ∙ d .alone
+
+    left-struck : Left (deleteOf s path stamp .image) (v .geometry .edition) (blockLength (v .geometry)) (only (λ k. not (keptAt path k)) (sight s v)) (unusables v)
+    left-struck =
+        rw (image-struck strikes, ← sight-tidied s v o, ← unusables-tidied v)
+        (strike-left t w o₂ (opens-settled s v o) path (d .it) (place t w path o₂ (d .it) found) (others t w path o₂ (d .it) found) alone)
+
+    -- it opens with the geometry that it had
+    pub opens-struck : (u : Volume) × (u .geometry ≡ v .geometry) × Opens (deleteOf s path stamp .image) u
+    opens-struck = (
+      volume t w o₂ (opens-settled s v o) path (d .it) (place t w path o₂ (d .it) found) (others t w path o₂ (d .it) found),
+      refl,
+      rw (image-struck strikes)
+          (strike-opens t w o₂ (opens-settled s v o) path (d .it) (place t w path o₂ (d .it) found) (others t w path o₂ (d .it) found) alone),
+    )
+
+  left : Left (deleteOf s path stamp .image) (v .geometry .edition) (blockLength (v .geometry))
+      (pick (keepsDeleted (v .geometry .edition)) (map (marked path) (sight s v)) (only (λ k. not (keptAt path k)) (sight s v))) (unusables v)
+  left =
+      pick-by (λ told. Left (deleteOf s path stamp .image) (v .geometry .edition) (blockLength (v .geometry)) told (unusables v))
+      (keepsDeleted (v .geometry .edition)) _ _ left-marked left-struck
 
 pub delete-left : AfterDelete
 delete-left s v path stamp o z = left s v path stamp (judge-opens s v o) (delete-passed s v path stamp o z)

@@ -1,7 +1,9 @@
 pub mod Sights
+pub mod Tidied
 pub mod Format
 pub mod Create
 pub mod Retype
+pub mod Strike
 pub mod Delete
 pub mod Restore
 pub mod Reclaim

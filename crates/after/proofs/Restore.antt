@@ -11,6 +11,7 @@ use lib.IntN.{ℤ}
 use borrow.Author.Tests.{not-true}
 use Rattle.rules.specs.Lists.{only, first, isSome, eqList, All}
 use Rattle.rules.specs.Lists.Laws.{clash, and-true, or-right, is-none}
+use Rattle.rules.specs.Editions.{keepsDeleted}
 use Rattle.rules.specs.SuperBlock.{blockLength}
 use Rattle.rules.specs.SuperBlock.Laws.{storedStamp}
 use Rattle.rules.specs.Names.{pathGood, leading}
@@ -19,16 +20,19 @@ use Rattle.rules.specs.Paths.{isLive, isDeleted, deletedAt, lookup, pathsSound}
 use Rattle.rules.specs.Refusals.{accepted, Volume, entries, judge}
 use Rattle.rules.specs.Refusals.Laws.{Opens, judge-opens}
 use Rattle.rules.specs.Writing.{Written, nearestLive, liveKind, restored, restoreOf}
+use Rattle.rules.specs.Writing.Laws.{tidyImage}
 use Rattle.rules.specs.History.{revived}
 use Rattle.after.specs.After.{isNamed, seen, Left, sight, unusables, AfterRestore}
-use Rattle.laws.proofs.Lists.Every.{all-of, none-passes, only-at, only-one}
+use Rattle.laws.proofs.Lists.Every.{all-of, none-passes, first-says, all-first, only-at, only-one}
 use Rattle.laws.proofs.Index.Entries.{retypedEntry}
 use Rattle.laws.proofs.Index.Places.{Found, first-split}
 use Rattle.laws.proofs.Entries.EntryKinds.{run-either, live-back}
 use Rattle.laws.proofs.Entries.Paths.{deletedAt-says, paths-restore}
+use Rattle.laws.proofs.Entries.Walked.{deleted-entries}
 use Rattle.laws.proofs.Entries.Retyping.{retype-one, retype-by}
 use Rattle.laws.proofs.Entries.Restoring.{restoreAt, restores}
 use Rattle.laws.proofs.Images.Accepted.{passed-need, passed-found, passed-writable, passed-done}
+use Rattle.laws.proofs.Images.Tidying.{tidied-kept}
 use Rattle.after.proofs.Retype.Left.{entries-before, retype-left}
 
 -- ---- what an accepted restore has passed
@@ -38,7 +42,7 @@ record RestorePassed (s : List ℕ) (v : Volume) (path : List ℕ) (stamp : ℤ)
   free : lookup path (entries v) ≡ none
   nearest : nearestLive (entries v) (leading path) ≡ true
   one : leb (length (only (deletedAt path) (entries v))) 1 ≡ true
-  image : restoreOf s path stamp .image ≡ restored s (slotAt s (v .geometry) (it .slot)) it stamp
+  image : restoreOf s path stamp .image ≡ restored (v .geometry .edition) (tidyImage s v) (slotAt (tidyImage s v) (v .geometry) (it .slot)) it stamp
 
 restore-passed : (s : List ℕ) (v : Volume) (path : List ℕ) (stamp : ℤ) → judge s ≡ accepted v → restoreOf s path stamp .refusal ≡ 0
     → RestorePassed s v path stamp
@@ -67,6 +71,12 @@ revive path stamp e n =
     (λ h. live-too (isLive e) (isDeleted e) (eqList (e .path) path) (run-either e n) h)
 
 module _ (s : List ℕ) (v : Volume) (path : List ℕ) (stamp : ℤ) (o : Opens s v) (d : RestorePassed s v path stamp) where
+  -- it is there, so deleted entries are kept, and nothing was left over
+  keeps : keepsDeleted (v .geometry .edition) ≡ true
+  keeps =
+      let f = first-says (deletedAt path) (entries v) (d .it) (d .found) in
+      all-first _ (deletedAt path) (entries v) (d .it) (deleted-entries s v o) f (deletedAt-says path (d .it) (f .passes) .0)
+
   place : Found (deletedAt path) (v .items) (d .it)
   place = first-split (deletedAt path) (v .items) (d .it) (d .found)
 
@@ -77,7 +87,7 @@ module _ (s : List ℕ) (v : Volume) (path : List ℕ) (stamp : ℤ) (o : Opens 
   post = entriesOf (place .post)
 
   whole : entries v ≡ pre ++ (d .it ∷ post)
-  whole = entries-before s v o (deletedAt path) liveKind (restores path) stamp (d .it) place
+  whole = entries-before s v o keeps (deletedAt path) liveKind (restores path) stamp (d .it) place
 
   before : All (λ e. deletedAt path e ≡ false) pre
   before = none-passes (deletedAt path) pre (place .before)
@@ -97,11 +107,11 @@ module _ (s : List ℕ) (v : Volume) (path : List ℕ) (stamp : ℤ) (o : Opens 
       ∙ paths-restore path pre (d .it) back post before (place .passes) others (live-back (d .it .kind)) (deletedAt-says path (d .it) (place .passes) .1)
       (rw (← whole) (d .free)) (rw (← whole) (d .nearest)) (rw (← whole) (o .paths-sound))
 
-  left : Left (restoreOf s path stamp .image) (blockLength (v .geometry)) (map (revived path) (sight s v)) (unusables v)
+  left : Left (restoreOf s path stamp .image) (v .geometry .edition) (blockLength (v .geometry)) (map (revived path) (sight s v)) (unusables v)
   unfolding restored revived seen
   left =
-      rw (d .image)
-      (retype-left s v o (deletedAt path) liveKind (restores path) stamp (d .it) place others paths
+      rw (d .image, tidied-kept s v o keeps)
+      (retype-left s v o keeps (deletedAt path) liveKind (restores path) stamp (d .it) place others paths
       (λ k. k .live || eqList (k .path) path)
       (all-of _ (λ e n. revive path (storedStamp stamp) e n) (entries v)))
 

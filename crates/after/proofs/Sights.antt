@@ -3,25 +3,38 @@ use Prim.Native.Nat.{ℕ}
 use mathlib.Core.Path.{_≡_, refl, ap, ap₂, _∙_}
 use mathlib.Core.Bool.{Bool, true, false, _&&_, not}
 use mathlib.Core.List.{List, _∷_, map}
-use lib.Dec.{eqb}
+use lib.ListN.{length}
 use borrow.Author.Tests.{eqb-true}
-use Rattle.rules.specs.Lists.{only}
+use Rattle.rules.specs.Lists.{only, All}
 use Rattle.rules.specs.Lists.Laws.{only-no}
-use Rattle.rules.specs.SuperBlock.{Geometry}
+use Rattle.rules.specs.SuperBlock.{Geometry, blockLength}
+use Rattle.rules.specs.SuperBlock.Laws.{GoodGeometry}
 use Rattle.rules.specs.Index.{Entry, runType, deletedType, typeUnusable}
+use Rattle.rules.specs.Regions.{regionsSound}
 use Rattle.rules.specs.Reading.{fileBytes}
 use Rattle.rules.specs.Paths.{isDeleted}
 use Rattle.rules.specs.Writing.{undeleted}
-use Rattle.after.specs.After.{seen, Extent, extentOf, isUnusable}
+use Rattle.after.specs.After.{isNamed, seen, Extent, extentOf, isUnusable}
 use Rattle.laws.proofs.Lists.Parts.{map-map, only-map, only-only, only-ext}
-use Rattle.laws.proofs.Lists.Every.{map-ext, all-of}
+use Rattle.laws.proofs.Lists.Every.{map-ext, all-of, all-weaken, all-and, all-only}
 use Rattle.laws.proofs.Entries.EntryKinds.{run-usable}
-use Rattle.laws.proofs.Entries.Regions.{SameRegion}
+use Rattle.laws.proofs.Entries.Regions.{SameRegion, sound-says}
+use Rattle.laws.proofs.Entries.Walked.{Bare}
+use Rattle.laws.proofs.Images.Kept.{Between}
+use Rattle.laws.proofs.Images.Areas.{bytes-kept}
 
 -- ---- what is seen
 pub seen-same : (s t : List ℕ) (g h : Geometry) (e : Entry) → fileBytes t h e ≡ fileBytes s g e → seen t h e ≡ seen s g e
 unfolding seen
 seen-same s t g h e same = rw same
+
+-- of files and directories among some entries, where the area between super-block and index is kept
+pub seen-part : (s t : List ℕ) (g h : Geometry) → GoodGeometry (length s) g → Between s t g → blockLength h ≡ blockLength g → (q : Entry → Bool) (es : List Entry)
+    → All Bare es → regionsSound g es ≡ true → map (seen t h) (only isNamed (only q es)) ≡ map (seen s g) (only isNamed (only q es))
+seen-part s t g h good same block q es b r =
+    let each = all-weaken _ (λ e. seen t h e ≡ seen s g e) (λ e p. seen-same s t g h e (bytes-kept s t g h e good same block (p .0) (p .1))) es
+    (all-and Bare _ es b (sound-says g es r .each)) in
+    map-ext (seen t h) (seen s g) (only isNamed (only q es)) (all-only _ isNamed (only q es) (all-only _ q es each))
 
 -- ---- unusable regions
 abbrev pub extentsOf : List Entry → List Extent
@@ -41,19 +54,15 @@ pub extents-named : (e : Entry) (es : List Entry) → runType (e .kind) ≡ true
 unfolding isUnusable
 extents-named e es r = ap (map extentOf) (only-no isUnusable e es (run-usable (e .kind) r))
 
--- none of them deleted
-kept-unusable : (t : ℕ) → (not (deletedType t) && eqb t typeUnusable) ≡ eqb t typeUnusable
-unfolding deletedType
-kept-unusable t = by (eqb t typeUnusable) refl
+-- some of them, all unusable ones among them
+pub extents-only : (q : Entry → Bool) → ((e : Entry) → isUnusable e ≡ true → q e ≡ true) → (es : List Entry) → extentsOf (only q es) ≡ extentsOf es
+extents-only q h es = ap (map extentOf) (only-only isUnusable q es ∙ only-ext _ isUnusable (λ e. by (q e) (isUnusable e) (h e)) es)
   where
-    by : (b : Bool) → eqb t typeUnusable ≡ b → (not (deletedType t) && b) ≡ b
-    by true q = rw (eqb-true t typeUnusable q)
-    by false q = none (not (deletedType t))
-      where
-        none : (a : Bool) → (a && false) ≡ false
-        none true = refl
-        none false = refl
+    by : (a b : Bool) → (b ≡ true → a ≡ true) → (a && b) ≡ b
+    by true b k = refl
+    by false true k = k refl
+    by false false k = refl
 
 pub extents-undeleted : (es : List Entry) → extentsOf (undeleted es) ≡ extentsOf es
-unfolding isUnusable isDeleted
-extents-undeleted es = ap (map extentOf) (only-only isUnusable (λ e. not (isDeleted e)) es ∙ only-ext _ isUnusable (λ e. kept-unusable (e .kind)) es)
+unfolding isUnusable isDeleted deletedType
+extents-undeleted = extents-only (λ e. not (isDeleted e)) (λ e u. ap (λ t. not (deletedType t)) (eqb-true (e .kind) typeUnusable u))

@@ -6,6 +6,7 @@ use mathlib.Core.List.{List, [], _∷_, _++_}
 use lib.ListN.{replicate}
 use lib.IntN.{pos}
 use Rattle.rules.specs.Lists.{padded}
+use Rattle.rules.specs.Editions.{edition10}
 use Rattle.rules.specs.SuperBlock.{geometryOf}
 use Rattle.rules.specs.Index.{itemsOf}
 use Rattle.rules.specs.Comparing.{looked, findLooked}
@@ -46,11 +47,11 @@ past-the-run = (refl, refl)
 abbrev three : List ℕ
 three =
     run (replicate 2_048 0)
-    (format 512 1 (text "THREE") (pos 1) ∷ create (newFile []) (text "aa") (pos 2) ∷ create (newFile []) (text "ba") (pos 3)
+    (format 0x10 512 1 (text "THREE") (pos 1) ∷ create (newFile []) (text "aa") (pos 2) ∷ create (newFile []) (text "ba") (pos 3)
     ∷ create (newFile []) (text "ca") (pos 4) ∷ [])
 
 abbrev searched : List ℕ → String → ℕ
-searched s path = let g = geometryOf s in findLooked s (record { geometry = g; items = itemsOf s g }) (text path)
+searched s path = let g = geometryOf edition10 s in findLooked s (record { geometry = g; items = itemsOf s g }) (text path)
 
 -- two bytes of each name that is not the path's, four of the one that is; nothing behind it is met
 pub three-searched :

@@ -3,3 +3,4 @@ pub mod Table
 pub mod Runs
 pub mod Names
 pub mod Comparing
+pub mod Edition110

@@ -74,14 +74,14 @@ lengths = (refl, refl, refl, refl)
 
 -- ---- the volume at the square
 abbrev square : List ℕ
-square = run (replicate 1_536 0) (format 512 1 (utf8 "À la page") (pos 5) ∷ [])
+square = run (replicate 1_536 0) (format 0x10 512 1 (utf8 "À la page") (pos 5) ∷ [])
 
 pub square-name : openOf square (replicate 10 0) .output ≡ 0xC3 ∷ 0x80 ∷ text " la page"
 unfolding everything
 square-name = refl
 
 -- `À` as the one byte that 01 would have taken
-pub one-byte : refusals (replicate 1_536 0) (format 512 1 (text "À la page") (pos 5) ∷ []) ≡ 10 ∷ []
+pub one-byte : refusals (replicate 1_536 0) (format 0x10 512 1 (text "À la page") (pos 5) ∷ []) ≡ 10 ∷ []
 unfolding everything refusals refusalOf
 one-byte = refl
 
@@ -90,7 +90,7 @@ abbrev straddling : List ℕ
 straddling = utf8 "prêts de la branche au marché"
 
 abbrev twoSlots : List Call
-twoSlots = format 512 1 [] (pos 5) ∷ create (newFile []) straddling (pos 6) ∷ []
+twoSlots = format 0x10 512 1 [] (pos 5) ∷ create (newFile []) straddling (pos 6) ∷ []
 
 pub straddles :
     refusals (replicate 1_536 0) (twoSlots ++ (find straddling ∷ delete straddling (pos 7) ∷ openVolume (replicate 1 0) ∷ []))

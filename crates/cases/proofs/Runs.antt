@@ -7,6 +7,7 @@ use mathlib.Core.List.{List, [], _∷_, _++_}
 use lib.ListN.{replicate}
 use lib.IntN.{pos, negsuc}
 use Rattle.rules.specs.Fields.{splice}
+use Rattle.rules.specs.Editions.{edition10}
 use Rattle.rules.specs.Index.{typeFile, typeDirectory}
 use Rattle.rules.specs.Outcome.{done}
 use Rattle.rules.specs.Reading.{openOf, findOf, listOf, readOf}
@@ -19,7 +20,7 @@ use Rattle.cases.proofs.Table.{date}
 
 -- ---- the refusals of a list of calls
 unfoldable pub refusalOf : List ℕ → Call → ℕ
-refusalOf s (format bytesPerBlock reserved name stamp) = formatOf s bytesPerBlock reserved name stamp .refusal
+refusalOf s (format version bytesPerBlock reserved name stamp) = formatOf s version bytesPerBlock reserved name stamp .refusal
 refusalOf s (openVolume out) = openOf s out .refusal
 refusalOf s (find path) = findOf s path .refusal
 refusalOf s (list slot out) = listOf s slot out .refusal
@@ -38,7 +39,7 @@ blank n = replicate n 0
 
 -- ---- 1,536 bytes, the least that can be formatted in blocks of 512
 abbrev formatSmall : Call
-formatSmall = format 512 1 (text "SMALL") (pos 5)
+formatSmall = format 0x10 512 1 (text "SMALL") (pos 5)
 
 abbrev small : List ℕ
 small = run (blank 1_536) (formatSmall ∷ [])
@@ -63,6 +64,7 @@ pub small-open :
     openOf small (blank 8)
     ≡ done
     (record {
+      edition = 0x10;
       version = 0x10;
       total = 3;
       reserved = 1;
@@ -120,6 +122,7 @@ same-afternoon = refl
 pub notice-told :
     told (blank 1_536) nothing (notice ++ (delete (text "n") (pos 10) ∷ restore (text "n") (pos 15) ∷ reclaim (pos 16) ∷ []))
     ≡ record {
+      edition = edition10;
       blockBytes = 512;
       kept = record { path = text "n"; kind = typeFile; bytes = text "Closed"; blocks = 1; live = true } ∷ [];
       granted = 1;
@@ -130,7 +133,7 @@ notice-told = refl
 
 pub notice-struck :
     told (blank 1_536) nothing (notice ++ (delete (text "n") (pos 10) ∷ restore (text "n") (pos 15) ∷ delete (text "n") (pos 16) ∷ reclaim (pos 17) ∷ []))
-    ≡ record { blockBytes = 512; kept = []; granted = 1; givenBack = 1 }
+    ≡ record { edition = edition10; blockBytes = 512; kept = []; granted = 1; givenBack = 1 }
 unfolding everything
 notice-struck = refl
 
@@ -232,7 +235,7 @@ named30-slots = refl
 
 -- ---- arguments of a format
 abbrev formats : ℕ → ℕ → ℕ → ℕ → ℕ
-formats n bytesPerBlock reserved nameLength = formatOf (blank n) bytesPerBlock reserved (replicate nameLength 0x61) (pos 0) .refusal
+formats n bytesPerBlock reserved nameLength = formatOf (blank n) 0x10 bytesPerBlock reserved (replicate nameLength 0x61) (pos 0) .refusal
 
 -- the empty image, too short, no room for an index, the least in two block lengths; reserved too few, too many; no block length, no whole
 -- number of blocks; the name's length
@@ -274,7 +277,7 @@ empty-image = refl
 -- ---- the terminal's volume
 abbrev session : List Call
 session =
-    format 512 2 (text "TERM7") (pos 0)
+    format 0x10 512 2 (text "TERM7") (pos 0)
     ∷ create newDirectory (text "session") (pos 0x3C0000)
     ∷ create (newFile (text "yes")) (text "session/verified") (negsuc 0)
     ∷ []
@@ -331,7 +334,7 @@ listing-refused = refl
 -- ---- a history
 abbrev busyDay : List Call
 busyDay =
-    format 512 1 (text "DAY") (pos 0)
+    format 0x10 512 1 (text "DAY") (pos 0)
     ∷ create newDirectory (text "d") (pos 1)
     ∷ create (newFile (replicate 513 7)) (text "d/a") (pos 2)
     ∷ create (newFile []) (text "e") (pos 3)
@@ -352,6 +355,7 @@ busyDay-refusals = refl
 pub busyDay-told :
     told (blank 3_072) nothing busyDay
     ≡ record {
+      edition = edition10;
       blockBytes = 512;
       kept =
           record { path = text "d/a"; kind = typeFile; bytes = text "b"; blocks = 1; live = true }
@@ -375,7 +379,7 @@ busyDay-listing = refl
 abbrev whole : List ℕ
 whole =
     run (blank 2_048) (
-    format 512 1 [] (pos 0)
+    format 0x10 512 1 [] (pos 0)
     ∷ create newDirectory (text "d") (pos 1)
     ∷ create (newFile (text "b")) (text "d/f") (pos 2)
     ∷ [])
@@ -419,7 +423,7 @@ pub later-version :
     ∷ delete (text "none") (pos 4)
     ∷ restore (text "none") (pos 4)
     ∷ reclaim (pos 5)
-    ∷ format 512 1 [] (pos 6)
+    ∷ format 0x10 512 1 [] (pos 6)
     ∷ [])
     ≡ 0 ∷ 0 ∷ 0 ∷ 17 ∷ 9 ∷ 9 ∷ 9 ∷ 9 ∷ 0 ∷ []
 unfolding everything refusals refusalOf

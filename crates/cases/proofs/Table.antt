@@ -6,6 +6,7 @@ use lib.ListN.{replicate}
 use lib.IntN.{ℤ, pos, negsuc}
 use Rattle.rules.specs.Lists.{All}
 use Rattle.rules.specs.Fields.{checksumOf}
+use Rattle.rules.specs.Editions.{edition10}
 use Rattle.rules.specs.SuperBlock.{Geometry, summedBytes}
 use Rattle.rules.specs.Index.{continuing, typeFile, typeDirectory}
 use Rattle.rules.specs.Writing.{formatOf, newFile, createOf}
@@ -23,14 +24,14 @@ row g w = record { got = g; wanted = w }
 
 -- 2,880 blocks, 2 reserved, b = 2, version 0x10
 abbrev floppy : Geometry
-floppy = record { stamp = pos 0; dataBlocks = 0; indexBytes = 128; version = 0x10; total = 2_880; reserved = 2; blockField = 2 }
+floppy = record { edition = edition10; stamp = pos 0; dataBlocks = 0; indexBytes = 128; version = 0x10; total = 2_880; reserved = 2; blockField = 2 }
 
 -- freshly formatted in blocks of 512: 1,536 bytes with 1 block reserved, and 65,536 bytes with 2
 abbrev small : List ℕ
-small = formatOf (replicate 1_536 0) 512 1 (text "SMALL") (pos 0) .image
+small = formatOf (replicate 1_536 0) 0x10 512 1 (text "SMALL") (pos 0) .image
 
 abbrev large : List ℕ
-large = formatOf (replicate 65_536 0) 512 2 (text "TERM7") (pos 0) .image
+large = formatOf (replicate 65_536 0) 0x10 512 2 (text "TERM7") (pos 0) .image
 
 -- the refusal of an empty file whose path has n bytes
 abbrev pathOf : ℕ → ℕ
@@ -49,9 +50,9 @@ rows =
     -- the checksum
     row (checksumOf (summedBytes floppy) ∷ []) (0xB5 ∷ [])
     -- the slots that continue a file's name, and a directory's
-    ∷ row (continuing typeFile 29 ∷ continuing typeFile 30 ∷ []) (0 ∷ 1 ∷ [])
-    ∷ row (continuing typeFile 93 ∷ continuing typeFile 94 ∷ []) (1 ∷ 2 ∷ [])
-    ∷ row (continuing typeDirectory 53 ∷ continuing typeDirectory 54 ∷ []) (0 ∷ 1 ∷ [])
+    ∷ row (continuing edition10 typeFile 29 ∷ continuing edition10 typeFile 30 ∷ []) (0 ∷ 1 ∷ [])
+    ∷ row (continuing edition10 typeFile 93 ∷ continuing edition10 typeFile 94 ∷ []) (1 ∷ 2 ∷ [])
+    ∷ row (continuing edition10 typeDirectory 53 ∷ continuing edition10 typeDirectory 54 ∷ []) (0 ∷ 1 ∷ [])
     -- the longest path to create
     ∷ row (pathOf 285 ∷ pathOf 286 ∷ []) (0 ∷ 10 ∷ [])
     -- stamps as dates

@@ -21,6 +21,7 @@ pub mod Laws
 -- ---- the answers in the rules' words
 abbrev pub volumeAnswer : Volume → VolumeNumbers
 volumeAnswer r = record {
+  edition = r .edition;
   version = r .version;
   total = r .total;
   reserved = r .reserved;
@@ -69,9 +70,9 @@ textAs n after = record { length = n; output = after }
 unfoldable pub textOf : List ℕ → List ℕ → Text
 textOf s out = pick (leb 131_072 (length out)) (textAs (length (listingOf s)) (splice out 0 (listingOf s))) (textAs 0 out)
 
--- ---- sfs_format: a fresh volume in place of whatever the image held
-abbrev pub Formats : List ℕ → ℕ → ℕ → List ℕ → ℤ → ℕ → List ℕ → Type 0
-Formats s bytesPerBlock reserved name stamp r t = writtenAs r t ≡ formatOf s bytesPerBlock reserved name stamp
+-- ---- sfs_format: a fresh volume of the edition that the version byte names, in place of whatever the image held
+abbrev pub Formats : List ℕ → ℕ → ℕ → ℕ → List ℕ → ℤ → ℕ → List ℕ → Type 0
+Formats s version bytesPerBlock reserved name stamp r t = writtenAs r t ≡ formatOf s version bytesPerBlock reserved name stamp
 
 -- ---- sfs_open: the volume's numbers, and its name in the output
 abbrev pub OpensVolume : List ℕ → List ℕ → Volume → List ℕ → Type 0
@@ -99,7 +100,7 @@ CreatesFile s path bytes stamp r t = Creates s (newFile bytes) path stamp r t
 abbrev pub CreatesDirectory : List ℕ → List ℕ → ℤ → ℕ → List ℕ → Type 0
 CreatesDirectory s path stamp r t = Creates s newDirectory path stamp r t
 
--- ---- sfs_delete: the path's live entry is marked deleted
+-- ---- sfs_delete: the path's live entry is marked deleted, or its slots are unused and its blocks free
 abbrev pub Deletes : List ℕ → List ℕ → ℤ → ℕ → List ℕ → Type 0
 Deletes s path stamp r t = writtenAs r t ≡ deleteOf s path stamp
 
@@ -107,7 +108,7 @@ Deletes s path stamp r t = writtenAs r t ≡ deleteOf s path stamp
 abbrev pub Restores : List ℕ → List ℕ → ℤ → ℕ → List ℕ → Type 0
 Restores s path stamp r t = writtenAs r t ≡ restoreOf s path stamp
 
--- ---- sfs_reclaim: what deleted entries hold is free
+-- ---- sfs_reclaim: what deleted entries hold is free, and the data area has its least size
 abbrev pub Reclaims : List ℕ → ℤ → ℕ → List ℕ → Type 0
 Reclaims s stamp r t = writtenAs r t ≡ reclaimOf s stamp
 

@@ -4,6 +4,7 @@
 pub struct Volume {
     pub refusal: u32,
     pub version: u32,
+    pub edition: u32,
     pub total: u64,
     pub reserved: u64,
     pub block_length: u64,

@@ -1,4 +1,4 @@
-// The call create: planned first, then written at one place, so that a refusal cannot have written.
+// The call create: planned first, then tidied and written at one place, so that a refusal cannot have written.
 
 use planning::Plan;
 ghost use Rattle.rules.specs.Fields.{signedOf};
@@ -12,6 +12,7 @@ pub fn create(img: &mut [u8], file: bool, path: &[u8], bytes: &[u8], stamp: u64)
     match planning::plan_create(img, file, path, bytes, stamp) {
         Plan::Refused(n) => n as u32,
         Plan::At(p) => {
+            tidying::tidy(img, p.old);
             placing::place(img, p, file, path, bytes, stamp);
             0
         }

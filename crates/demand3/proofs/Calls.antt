@@ -7,6 +7,7 @@ use mathlib.Core.Option.{Option, none, some}
 use lib.Dec.{eqb}
 use lib.IntN.{ℤ}
 use borrow.Author.Tests.{eqb-false}
+use Rattle.rules.specs.Editions.{Edition}
 use Rattle.rules.specs.Paths.{nextLive}
 use Rattle.rules.specs.Refusals.{Verdict, refused, accepted, need, needFound, andThen, entries}
 use Rattle.rules.specs.Outcome.{Outcome, done, conclude, onVolume}
@@ -69,11 +70,11 @@ read-image s path out =
 
 pub list-image : (s : List ℕ) (slot : ℕ) (out : List ℕ) → listOf s slot out .image ≡ s
 unfolding listOf onVolume listed done
-list-image s slot out = same-image _ s out _ (each-then (Same s) _ _ (λ v. by (nextLive slot (entries v))))
+list-image s slot out = same-image _ s out _ (each-then (Same s) _ _ (λ v. by (v .geometry .edition) (nextLive slot (entries v))))
   where
-    by : (o : Option _) → Each (Same s) (listed s out o)
-    by none = each-accepted (Same s) _ refl
-    by (some e) = each-need (Same s) _ _ _ (each-accepted (Same s) _ refl)
+    by : (ed : Edition) (o : Option _) → Each (Same s) (listed ed s out o)
+    by ed none = each-accepted (Same s) _ refl
+    by ed (some e) = each-need (Same s) _ _ _ (each-accepted (Same s) _ refl)
 
 -- ---- the calls that write
 abbrev Zero : {A : Type 0} → Outcome A → Type 0
@@ -86,15 +87,16 @@ unfolding Each conclude
 refused-image zeros s out (refused n) h e = refl
 refused-image zeros s out (accepted o) h e = absurd (eqb-false (o .refusal) 0 e h)
 
-pub format-refused : (s : List ℕ) (bytesPerBlock reserved : ℕ) (name : List ℕ) (stamp : ℤ)
-    → eqb (formatOf s bytesPerBlock reserved name stamp .refusal) 0 ≡ false
-    → formatOf s bytesPerBlock reserved name stamp .image ≡ s
+pub format-refused : (s : List ℕ) (version bytesPerBlock reserved : ℕ) (name : List ℕ) (stamp : ℤ)
+    → eqb (formatOf s version bytesPerBlock reserved name stamp .refusal) 0 ≡ false
+    → formatOf s version bytesPerBlock reserved name stamp .image ≡ s
 unfolding formatOf done
-format-refused s bytesPerBlock reserved name stamp =
+format-refused s version bytesPerBlock reserved name stamp =
     refused-image _ s _ _
     (each-need Zero _ _ _
+    (each-need Zero _ _ _
     (each-found Zero _ _ _ (λ b.
-    each-need Zero _ _ _ (each-need Zero _ _ _ (each-accepted Zero _ refl)))))
+    each-need Zero _ _ _ (each-need Zero _ _ _ (each-accepted Zero _ refl))))))
 
 pub create-refused : (s : List ℕ) (new : New) (path : List ℕ) (stamp : ℤ)
     → eqb (createOf s new path stamp .refusal) 0 ≡ false → createOf s new path stamp .image ≡ s

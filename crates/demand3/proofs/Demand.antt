@@ -28,7 +28,7 @@ held s h bad l =
 
 module _ (format-left : AfterFormat) (create-left : AfterCreate) (delete-left : AfterDelete) (restore-left : AfterRestore) (reclaim-left : AfterReclaim) where
   pub demand-3 : Demand3
-  demand-3 s bytesPerBlock reserved name stamp e cs =
+  demand-3 s version bytesPerBlock reserved name stamp e cs =
       held _ _ _
       (linked format-left create-left delete-left restore-left reclaim-left _ _ [] cs
-      (formatted format-left create-left delete-left restore-left reclaim-left s nothing bytesPerBlock reserved name stamp e))
+      (formatted format-left create-left delete-left restore-left reclaim-left s nothing version bytesPerBlock reserved name stamp e))

@@ -30,7 +30,7 @@ same-passed o q p e h = rw (h, e)
 
 pub answered-step : (s : List ℕ) (c : Call) (p : Passed) → Answered s c p → p ≡ step s c
 unfolding step
-answered-step s (format bytesPerBlock reserved name stamp) p (r, t, e, h) = same-passed _ _ p e h
+answered-step s (format version bytesPerBlock reserved name stamp) p (r, t, e, h) = same-passed _ _ p e h
 answered-step s (openVolume out) p (r, after, e, h) = same-passed _ _ p e h
 answered-step s (find path) p (r, e, h) = same-passed _ _ p e h
 answered-step s (list slot out) p (r, after, e, h) = same-passed _ _ p e h
@@ -91,9 +91,9 @@ listing-counts u h holds out r after e short room =
 
 -- ---- all together
 pub demand3-of-code : Demand3OfCode
-demand3-of-code s t bytesPerBlock reserved name stamp e xs u r =
-    let h = fed nothing (format bytesPerBlock reserved name stamp) in
-    let i : formatOf s bytesPerBlock reserved name stamp .image ≡ t = sym (ap (λ o. o .image) e) in
-    let d = rw i at (demand3 s bytesPerBlock reserved name stamp (sym (ap (λ o. o .refusal) e)) (calls xs)) in
+demand3-of-code s t version bytesPerBlock reserved name stamp e xs u r =
+    let h = fed nothing (format version bytesPerBlock reserved name stamp) in
+    let i : formatOf s version bytesPerBlock reserved name stamp .image ≡ t = sym (ap (λ o. o .image) e) in
+    let d = rw i at (demand3 s version bytesPerBlock reserved name stamp (sym (ap (λ o. o .refusal) e)) (calls xs)) in
     let holds : Holds u (toldOf h xs) = rw (run-image t xs u r, run-told t h xs u r) d in
     record { holds = holds; reads = bytes-back u (toldOf h xs) holds; listing = listing-counts u (toldOf h xs) holds }

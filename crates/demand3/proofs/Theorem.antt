@@ -1,4 +1,4 @@
--- DEMAND 3: after every list of the nine calls, with any arguments, from any accepted format, the image holds what the history says.
+-- DEMAND 3: after every list of the nine calls, with any arguments, from any accepted format of either edition, the image holds what the history says.
 use Rattle.rules.specs.History.{Demand3}
 use Rattle.after.proofs.Format.Left.{format-left}
 use Rattle.after.proofs.Create.Left.{create-left}

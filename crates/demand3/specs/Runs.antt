@@ -26,7 +26,7 @@ passedAs r t = record { answered = eqb r 0; image = t }
 
 -- the code's answer to a call on the image s meets the contract of the exported function, and p is what passes on
 abbrev pub Answered : List ℕ → Call → Passed → Type 0
-Answered s (format bytesPerBlock reserved name stamp) p = (r : ℕ) × (t : List ℕ) × Formats s bytesPerBlock reserved name stamp r t × (p ≡ passedAs r t)
+Answered s (format version bytesPerBlock reserved name stamp) p = (r : ℕ) × (t : List ℕ) × Formats s version bytesPerBlock reserved name stamp r t × (p ≡ passedAs r t)
 Answered s (openVolume out) p = (r : Volume) × (after : List ℕ) × OpensVolume s out r after × (p ≡ passedAs (r .refusal) s)
 Answered s (find path) p = (r : Entry) × Finds s path r × (p ≡ passedAs (r .refusal) s)
 Answered s (list slot out) p = (r : Listed) × (after : List ℕ) × Lists s slot out r after × (p ≡ passedAs (r .refusal) s)
@@ -85,8 +85,8 @@ pub record HeldByCode (u : List ℕ) (h : History) : Type 0 where
 -- from any format that the code answered with 0, for every run from the image that it left
 abbrev pub Demand3OfCode : Type 0
 Demand3OfCode =
-    (s t : List ℕ) (bytesPerBlock reserved : ℕ) (name : List ℕ) (stamp : ℤ)
-    → Formats s bytesPerBlock reserved name stamp 0 t
+    (s t : List ℕ) (version bytesPerBlock reserved : ℕ) (name : List ℕ) (stamp : ℤ)
+    → Formats s version bytesPerBlock reserved name stamp 0 t
     → (xs : List Served) (u : List ℕ)
     → Run t xs u
-    → HeldByCode u (toldOf (fed nothing (format bytesPerBlock reserved name stamp)) xs)
+    → HeldByCode u (toldOf (fed nothing (format version bytesPerBlock reserved name stamp)) xs)

@@ -12,14 +12,15 @@ ghost use Rattle.demand3.specs.Runs.{Answered, passedAs, BytesBack, List
 
 pub fn serve_format(
     image: &mut [u8],
+    version: u64,
     bytes_per_block: u64,
     reserved: u64,
     name: &[u8],
     stamp: i64,
 ) -> u32
-    ensures { λ r. ⌜ Answered (now (image .entry)) (format «bytes_per_block» reserved (now (name .entry)) stamp) (passedAs r (now (image .exit))) ⌝ }
+    ensures { λ r. ⌜ Answered (now (image .entry)) (format version «bytes_per_block» reserved (now (name .entry)) stamp) (passedAs r (now (image .exit))) ⌝ }
 {
-    sfs::sfs_format(image, bytes_per_block, reserved, name, stamp)
+    sfs::sfs_format(image, version, bytes_per_block, reserved, name, stamp)
 }
 
 pub fn serve_open(image: &[u8], out: &mut [u8]) -> Volume

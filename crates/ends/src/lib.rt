@@ -1,5 +1,6 @@
 // The two ends of the index area: the start marker and the volume identifier, of whose layout this is the one owner in code.
 
+use editions::Edition;
 use geometry::Geometry;
 use units::Offset;
 ghost use mathlib.Core.Path.{_≡_};
@@ -10,6 +11,7 @@ ghost use lib.ListN.{length};
 ghost use Rattle.rules.specs.Fields.{splice, signedOf};
 ghost use Rattle.rules.specs.Index.{identifierAt, volumeField, volumeName, volumeStamp, identifierGood, markerGood, markerBytes, identifierBytes};
 ghost use Rattle.rules.specs.Writing.{putMarker};
+ghost use Rattle.editions.specs.View.{editionView};
 ghost use Rattle.geometry.specs.View.{geometryView};
 
 // The slots of the two, and their bytes: an index area has no less.
@@ -60,25 +62,44 @@ pub fn volume_stamp(img: &[u8]) -> u64
     fields::le64_at(img, identifier(img).after(STAMP))
 }
 
-// Whether it has its type and a good name.
-fn identifier_good(img: &[u8]) -> bool
+// Whether it has its type, a right sum and a good name.
+fn identifier_good(img: &[u8], ed: Edition) -> bool
     requires { ⌜ 64 ≤ length (now img) ⌝ }
-    ensures { λ r. ⌜ r ≡ identifierGood (now (img .entry)) ⌝ }
+    ensures { λ r. ⌜ r ≡ identifierGood (editionView ed) (now (img .entry)) ⌝ }
 {
-    if slots::kind_at(img, identifier(img)) != slots::IDENTIFIER {
+    let at = identifier(img);
+    if slots::kind_at(img, at) != slots::IDENTIFIER {
+        return false;
+    }
+    if !slots::sum_good(img, ed, at, 1) {
         return false;
     }
     names::volume_field_good(volume_field(img))
 }
 
+// The identifier at `at`, and its sum last. Its type and the zeros up to its stamp are one number.
+fn put_identifier(img: &mut [u8], ed: Edition, at: Offset, stamp: u64, name: &[u8])
+    requires { ⌜ (at .0 + 64 ≤ length (now img)) × (length (now name) ≤ 52) ⌝ }
+    ensures { λ _. ⌜ now (img .exit) ≡ splice (now (img .entry)) (at .0) (identifierBytes (editionView ed) (signedOf stamp) (now (name .entry))) ⌝ }
+{
+    fields::put_le(img, at, STAMP as usize, fields::wide(slots::IDENTIFIER));
+    fields::put_stamp(img, at.after(STAMP), stamp);
+    copying::write_part(img, at.after(NAME), at.after_slots(1), name);
+    runs::seal(img, ed, at, 1);
+}
+
 // ---- the start marker
 
-// It is the first slot.
+// It is the first slot. Whether it has its type and a right sum.
 fn marker_good(img: &[u8], g: Geometry) -> bool
     requires { ⌜ (64 ≤ g .index) × (g .index ≤ length (now img)) ⌝ }
     ensures { λ r. ⌜ r ≡ markerGood (now (img .entry)) (geometryView g) ⌝ }
 {
-    slots::kind_at(img, units::index_start(img.len() as u64, g.index)) == slots::MARKER
+    let at = units::index_start(img.len() as u64, g.index);
+    if slots::kind_at(img, at) != slots::MARKER {
+        return false;
+    }
+    slots::sum_good(img, g.edition, at, 1)
 }
 
 // It moves with the index's start.
@@ -88,7 +109,7 @@ pub fn move_marker(img: &mut [u8], old: Geometry, new: Geometry)
 {
     if old.index != new.index {
         let start = units::index_start(img.len() as u64, new.index);
-        runs::put_marker(img, start);
+        runs::put_marker(img, new.edition, start);
     }
 }
 
@@ -97,29 +118,20 @@ pub fn move_marker(img: &mut [u8], old: Geometry, new: Geometry)
 // Whether the two ends of the index are good.
 pub fn are_good(img: &[u8], g: Geometry) -> bool
     requires { ⌜ (64 ≤ g .index) × (g .index ≤ length (now img)) ⌝ }
-    ensures { λ r. ⌜ r ≡ (markerGood (now (img .entry)) (geometryView g) && identifierGood (now (img .entry))) ⌝ }
+    ensures { λ r. ⌜ r ≡ (markerGood (now (img .entry)) (geometryView g) && identifierGood (editionView (g .edition)) (now (img .entry))) ⌝ }
 {
     if !marker_good(img, g) {
         return false;
     }
-    identifier_good(img)
+    identifier_good(img, g.edition)
 }
 
-// The ends of an index that has no slot between them. The identifier's type and the zeros up to its stamp are one number.
-pub fn put(img: &mut [u8], stamp: u64, name: &[u8])
+// The ends of an index that has no slot between them.
+pub fn put(img: &mut [u8], ed: Edition, stamp: u64, name: &[u8])
     requires { ⌜ (128 ≤ length (now img)) × (length (now name) ≤ 52) ⌝ }
-    ensures { λ _. ⌜ now (img .exit) ≡ splice (now (img .entry)) (length (now (img .entry)) - 128) (markerBytes ++ identifierBytes (signedOf stamp) (now (name .entry))) ⌝ }
+    ensures { λ _. ⌜ now (img .exit) ≡ splice (now (img .entry)) (length (now (img .entry)) - 128) (markerBytes (editionView ed) ++ identifierBytes (editionView ed) (signedOf stamp) (now (name .entry))) ⌝ }
 {
     let start = units::index_start(img.len() as u64, BYTES);
-    let identifier = start.after_slots(1);
-    let end = start.after_slots(SLOTS);
-    runs::put_marker(img, start);
-    fields::put_le(
-        img,
-        identifier,
-        STAMP as usize,
-        fields::wide(slots::IDENTIFIER),
-    );
-    fields::put_stamp(img, identifier.after(STAMP), stamp);
-    copying::write_part(img, identifier.after(NAME), end, name);
+    runs::put_marker(img, ed, start);
+    put_identifier(img, ed, start.after_slots(1), stamp, name);
 }

@@ -10,30 +10,47 @@ use slots::Head;
 ghost use mathlib.Core.Path.{_≡_};
 ghost use mathlib.Core.Bool.{true};
 ghost use mathlib.Core.Option.{some};
+ghost use lib.IntN.{ℤ};
 ghost use Rattle.rules.specs.Fields.{signedOf};
 ghost use Rattle.rules.specs.SuperBlock.{Geometry as Sizes};
-ghost use Rattle.rules.specs.Index.{slotAt};
+ghost use Rattle.rules.specs.Index.{slotAt, itemsOf, entriesOf};
+ghost use Rattle.rules.specs.Index.Items.{faultless};
 ghost use Rattle.rules.specs.Paths.{isDeleted, lookup, pathsSound, anyBelow};
-ghost use Rattle.rules.specs.Writing.{deleteOf, cleared};
+ghost use Rattle.rules.specs.Writing.{Written, deleteOf, deleted, cleared};
+ghost use Rattle.rules.specs.Writing.Laws.{wrote};
 ghost use Rattle.contracts.specs.Contracts.{Deletes, Reclaims};
+ghost use Rattle.editions.specs.View.{editionView};
 ghost use Rattle.geometry.specs.View.{geometryView};
+ghost use Rattle.index.specs.View.{SumsFrom};
 ghost use Rattle.index.specs.Steps.{Walks, entriesFrom};
 ghost use Rattle.slots.specs.View.{headView, HeadIn};
+ghost use Rattle.super_block.specs.View.{Judged as GoodSuper};
 ghost use Rattle.judging.specs.View.{Opened};
-ghost use Rattle.retyping.specs.Planned.{RetypePlanned};
-ghost use Rattle.erasing.specs.Reclaim.{headCleared, reclaimed};
+ghost use Rattle.retyping.specs.Planned.{tidyOf, HasRoom, RetypePlanned};
+ghost use Rattle.erasing.specs.Reclaim.{headCleared, leastSizes, SameIndex, leastWritten, reclaimed};
 
 // ---- delete
 
 // Whether a live entry lies below the path whose live entry was found. Nothing lies below a file.
-fn any_below(img: &[u8], from: Cursor, path: &[u8], h: Head) -> bool
-    requires { ⌜ Walks (now img) from × (pathsSound (entriesFrom (now img) from) ≡ true) × (lookup (now path) (entriesFrom (now img) from) ≡ some (headView (now img) h)) ⌝ }
+fn any_below(img: &[u8], sums: &[u8], from: Cursor, path: &[u8], h: Head) -> bool
+    requires { ⌜ Walks (now img) from × (pathsSound (entriesFrom (now img) from) ≡ true) × (lookup (now path) (entriesFrom (now img) from) ≡ some (headView (now img) h)) × SumsFrom (now img) (now sums) from ⌝ }
     ensures { λ r. ⌜ r ≡ anyBelow (now (path .entry)) (entriesFrom (now (img .entry)) from) ⌝ }
 {
     if h.kind != slots::DIRECTORY {
         return false;
     }
-    paths::any_below(img, from, path)
+    paths::any_below(img, sums, from, path)
+}
+
+// The entry that was found: another type, or no entry any more where deleted ones are not kept.
+fn plan_found(img: &[u8], g: Geometry, h: Head) -> Retyping
+    requires { ⌜ Opened (now img) g × HasRoom (now img) g h ⌝ }
+    ensures { λ r. ⌜ ((call : ℤ → Written) → ((z : ℤ) → call z ≡ wrote (deleted (editionView (g .edition)) (tidyOf (now (img .entry)) g) (slotAt (tidyOf (now (img .entry)) g) (geometryView g) (h .slot .0)) (headView (now (img .entry)) h) z)) → RetypePlanned (now (img .entry)) call r) ⌝ }
+{
+    if g.edition.keeps_deleted() {
+        return retyping::at_slot(img, g, h.slot, slots::deleted_kind(h.kind));
+    }
+    retyping::clear_at(img, g, h.slot, h.slots)
 }
 
 fn plan_entry(img: &[u8], g: Geometry, path: &[u8]) -> Retyping
@@ -46,14 +63,15 @@ fn plan_entry(img: &[u8], g: Geometry, path: &[u8]) -> Retyping
     if !names::path_good(path) {
         return Retyping::Refused(10);
     }
-    let from = super_block::first_slot(img, g);
-    match paths::lookup(img, from, path) {
+    let mut sums = [0u8; sums::ROOM];
+    let from = super_block::first_slot(img, g, &mut sums);
+    match paths::lookup(img, &sums, from, path) {
         Search::Nothing => Retyping::Refused(11),
         Search::Entry(h) => {
-            if any_below(img, from, path, h) {
+            if any_below(img, &sums, from, path, h) {
                 return Retyping::Refused(14);
             }
-            retyping::at_slot(img, g, h.slot, slots::deleted_kind(h.kind))
+            plan_found(img, g, h)
         }
     }
 }
@@ -83,18 +101,18 @@ fn clear_head(img: &mut [u8], h: Head)
     ensures { λ _. ⌜ now (img .exit) ≡ headCleared (now (img .entry)) h ⌝ }
 {
     if slots::is_deleted(h.kind) {
-        runs::clear_run(img, h.at, h.slots);
+        runs::clear_run(img, h.edition, h.at, h.slots);
     }
 }
 
 // Every deleted run from the cursor on is cleared. What is cleared lies before the cursor that the walk goes on from.
-fn clear_deleted(img: &mut [u8], from: Cursor)
-    requires { ⌜ Walks (now img) from ⌝ }
-    ensures { λ _. ⌜ ((g : Sizes) → from .at .0 ≡ slotAt (now (img .entry)) g (from .slot .0) → now (img .exit) ≡ cleared isDeleted (now (img .entry)) g (entriesFrom (now (img .entry)) from)) ⌝ }
+fn clear_deleted(img: &mut [u8], sums: &[u8], from: Cursor)
+    requires { ⌜ Walks (now img) from × SumsFrom (now img) (now sums) from ⌝ }
+    ensures { λ _. ⌜ ((g : Sizes) → editionView (from .edition) ≡ g .edition → from .at .0 ≡ slotAt (now (img .entry)) g (from .slot .0) → now (img .exit) ≡ cleared isDeleted (now (img .entry)) g (entriesFrom (now (img .entry)) from)) ⌝ }
 {
     let mut c = from;
     loop {
-        match index::next_entry(img, c) {
+        match index::next_entry(img, sums, c) {
             Next::End => return,
             Next::Found(h, rest) => {
                 clear_head(img, h);
@@ -104,16 +122,46 @@ fn clear_deleted(img: &mut [u8], from: Cursor)
     }
 }
 
-// The sizes with the least data area, then the runs.
+// The sizes with the least data area.
+fn least_sizes(img: &[u8], g: Geometry, stamp: u64) -> Geometry
+    requires { ⌜ Opened (now img) g ⌝ }
+    ensures { λ r. ⌜ geometryView r ≡ leastSizes (now (img .entry)) (geometryView g) (signedOf stamp) ⌝ }
+{
+    let mut sums = [0u8; sums::ROOM];
+    let from = super_block::first_slot(img, g, &mut sums);
+    let trimmed = g.trim_data(free_runs::last_end(img, &sums, from));
+    trimmed.restamp(g, stamp)
+}
+
+// Every deleted run of a sound index is cleared, by this geometry or any with the same index.
+fn clear_all(img: &mut [u8], g: Geometry)
+    requires { ⌜ GoodSuper (now img) g × (faultless (itemsOf (now img) (geometryView g)) ≡ true) ⌝ }
+    ensures { λ _. ⌜ ((h : Sizes) → SameIndex h (geometryView g) → now (img .exit) ≡ cleared isDeleted (now (img .entry)) h (entriesOf (itemsOf (now (img .entry)) (geometryView g)))) ⌝ }
+{
+    let mut sums = [0u8; sums::ROOM];
+    let from = super_block::first_slot(img, g, &mut sums);
+    clear_deleted(img, &sums, from);
+}
+
+// These sizes, then the deleted runs are cleared; where none are kept there is nothing to clear.
+fn write_least(img: &mut [u8], g: Geometry, least: Geometry)
+    requires { ⌜ Opened (now img) g × SameIndex (geometryView least) (geometryView g) ⌝ }
+    ensures { λ _. ⌜ now (img .exit) ≡ leastWritten (now (img .entry)) (geometryView g) (geometryView least) ⌝ }
+{
+    super_block::put_sizes(img, least);
+    if g.edition.keeps_deleted() {
+        clear_all(img, g);
+    }
+}
+
+// All of it, in the image once it is tidied.
 fn write_reclaimed(img: &mut [u8], g: Geometry, stamp: u64)
     requires { ⌜ Opened (now img) g ⌝ }
     ensures { λ _. ⌜ now (img .exit) ≡ reclaimed (now (img .entry)) (geometryView g) (signedOf stamp) ⌝ }
 {
-    let from = super_block::first_slot(img, g);
-    let least = g.trim_data(free_runs::last_end(img, from))
-        .restamp(g, stamp);
-    super_block::put_sizes(img, least);
-    clear_deleted(img, from);
+    let least = least_sizes(img, g, stamp);
+    tidying::tidy(img, g);
+    write_least(img, g, least);
 }
 
 // The refusal, 0 on success; `stamp` is the stamp's 64 bits.

@@ -32,7 +32,7 @@ meets-none : (b : ℕ) (e : Entry) → meets b 0 e ≡ false
 unfolding meets
 meets-none b e = and-left _ _ (le-ltb (max b (e .start)) (b + 0) (omega arith))
 
-pub or-cases : {X : Type 0} (a b : Bool) → (a || b) ≡ true → (a ≡ true → X) → (b ≡ true → X) → X
+or-cases : {X : Type 0} (a b : Bool) → (a || b) ≡ true → (a ≡ true → X) → (b ≡ true → X) → X
 or-cases true b e f g = f refl
 or-cases false b e f g = g e
 

@@ -10,13 +10,14 @@ ghost use mathlib.Core.Option.{none, some};
 ghost use Prim.Native.Nat.{ℕ, _+_, _^_, _≤_, _<_};
 ghost use lib.ListN.{drop};
 ghost use lib.Dec.{leb};
-ghost use Rattle.rules.specs.Lists.{pick};
+ghost use Rattle.rules.specs.Lists.{pick, All};
 ghost use Rattle.rules.specs.Index.{Entry};
 ghost use Rattle.rules.specs.Regions.{heldBlocks, lowestFree, blocksNeeded};
 ghost use Rattle.rules.specs.Writing.{undeleted, leastEnd};
 ghost use Rattle.slots.specs.View.{headView};
+ghost use Rattle.index.specs.View.{SumsFrom};
 ghost use Rattle.index.specs.Steps.{Walks, entriesFrom};
-ghost use Rattle.ordering.specs.Regions.{freeFrom};
+ghost use Rattle.ordering.specs.Regions.{freeFrom, Small};
 ghost use Rattle.regions.specs.Gathering.{HasRegions};
 ghost use Rattle.free_runs.specs.View.{freeView};
 ghost use Rattle.free_runs.specs.Sums.{fileBlocks, keptEnd};
@@ -80,23 +81,24 @@ pub fn lowest_free(keys: &[u64], i: usize, k: u64, low: Block, ceiling: Block) -
 
 // The blocks of a live or deleted file, 0 of any other entry.
 fn file_blocks(h: Head) -> u64
+    requires { ⌜ h .end .0 + 1 < 2 ^ 64 ⌝ }
     ensures { λ r. ⌜ ((s : List ℕ) → r ≡ fileBlocks (headView s h)) ⌝ }
 {
     if !slots::is_file(h.kind) {
         return 0;
     }
-    h.end.blocks_past(h.start)
+    slots::past_end(h).blocks_past(h.start)
 }
 
 // The blocks of live and deleted files from the cursor on.
-pub fn held_blocks(img: &[u8], from: Cursor) -> u64
-    requires { ⌜ Walks (now img) from × (heldBlocks (entriesFrom (now img) from) < 2 ^ 64) ⌝ }
+pub fn held_blocks(img: &[u8], sums: &[u8], from: Cursor) -> u64
+    requires { ⌜ Walks (now img) from × All Small (entriesFrom (now img) from) × SumsFrom (now img) (now sums) from ⌝ }
     ensures { λ r. ⌜ r ≡ heldBlocks (entriesFrom (now (img .entry)) from) ⌝ }
 {
     let mut c = from;
     let mut held = 0;
     loop {
-        match index::next_entry(img, c) {
+        match index::next_entry(img, sums, c) {
             Next::End => return held,
             Next::Found(e, rest) => {
                 held += file_blocks(e);
@@ -108,23 +110,24 @@ pub fn held_blocks(img: &[u8], from: Cursor) -> u64
 
 // The end of a region that a reclaim keeps, 0 of a deleted entry.
 fn kept_end(h: Head) -> Block
+    requires { ⌜ h .end .0 + 1 < 2 ^ 64 ⌝ }
     ensures { λ r. ⌜ ((s : List ℕ) → r .0 ≡ keptEnd (headView s h)) ⌝ }
 {
     if slots::is_deleted(h.kind) {
         return Block::at(0);
     }
-    h.end
+    slots::past_end(h)
 }
 
 // The least end that the data area can have once deleted entries are gone.
-pub fn last_end(img: &[u8], from: Cursor) -> Block
-    requires { ⌜ Walks (now img) from ⌝ }
+pub fn last_end(img: &[u8], sums: &[u8], from: Cursor) -> Block
+    requires { ⌜ Walks (now img) from × All Small (entriesFrom (now img) from) × SumsFrom (now img) (now sums) from ⌝ }
     ensures { λ r. ⌜ r .0 ≡ leastEnd (undeleted (entriesFrom (now (img .entry)) from)) ⌝ }
 {
     let mut c = from;
     let mut last = Block::at(0);
     loop {
-        match index::next_entry(img, c) {
+        match index::next_entry(img, sums, c) {
             Next::End => return last,
             Next::Found(e, rest) => {
                 last = last.later(kept_end(e));

@@ -9,10 +9,12 @@ use mathlib.Core.Bool.{Bool, false, _&&_}
 use lib.Dec.{eqb, leb}
 use Rattle.rules.specs.Fields.{signedOf}
 use Rattle.rules.specs.SuperBlock.{Geometry, indexGood, dataEnd, ceilingBlock}
+use Rattle.editions.specs.View.{editionView}
 use Rattle.geometry.specs.declared.Geometry.{Geometry as Held}
 
 abbrev pub geometryView : Held → Geometry
 geometryView g = record {
+  edition = editionView (g .edition);
   stamp = signedOf (g .stamp);
   dataBlocks = g .«data»;
   indexBytes = g .index;

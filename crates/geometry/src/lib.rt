@@ -1,5 +1,6 @@
 // The geometry that all calls share, by value.
 
+use editions::Edition;
 use units::Block;
 ghost use mathlib.Core.Path.{_≡_};
 ghost use Prim.Native.Nat.{_+_, _*_, _≤_, _<_, _^_};
@@ -7,9 +8,6 @@ ghost use lib.Dec.{eqb};
 ghost use Rattle.rules.specs.SuperBlock.{blockLength, dataEnd, ceilingBlock, writable, indexGood, geometryGood, growIndex, extendData, trimData, withStamp, restamp};
 ghost use Rattle.rules.specs.Fields.{signedOf};
 ghost use Rattle.geometry.specs.View.{geometryView, areasFit};
-
-// Version 1.0: the least that is read, and the only one that is written.
-pub const VERSION: u8 = 0x10;
 
 // The least bytes of the reserved area: the boot code and the super-block.
 const LEAST_RESERVED: u64 = 512;
@@ -29,6 +27,7 @@ const MOST_FIELD: u8 = 5;
 
 // The stamp is held as its 64 bits, as stored: code only moves it.
 pub struct Geometry {
+    pub edition: Edition,
     pub stamp: u64,
     pub data: u64,
     pub index: u64,
@@ -127,7 +126,7 @@ impl Geometry {
     pub fn is_writable(self) -> bool
         ensures { λ r. ⌜ r ≡ writable (geometryView self) ⌝ }
     {
-        self.version <= VERSION
+        self.edition.writes(self.version)
     }
 
     // Whether the geometry is good for an image of n bytes, at any 64-bit values.

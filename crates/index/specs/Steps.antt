@@ -1,14 +1,16 @@
 -- From entry to entry: what a step of the walk says.
 use Prim.Native.Nat.{ℕ, _+_, _-_, _*_, _≤_, _<_}
-use mathlib.Core.Path.{_≡_, refl, sym, ap, ap₂, _∙_}
+use mathlib.Core.Path.{_≡_, refl, sym, ap, _∙_}
 use mathlib.Core.Bool.{Bool, true, false}
 use mathlib.Core.List.{List, [], _∷_}
 use native.Mathlib.Omega.{arith}
-use lib.ListN.{getD, drop}
-use Rattle.rules.specs.Index.{Entry, entry, unused, itemAt, entriesOf, slotBytes, runType, unusableAt}
-use Rattle.rules.specs.Lists.Laws.{or-false}
-use Rattle.rules.specs.Index.Walk.{walkAll, slotsOf, walk-none}
-use Rattle.rules.specs.Index.Items.{faultless, headOf, head-unusable, entryType, Stands, sound-entry, sound-unused, rest-sound, entries-entry, entries-unused, type-drop}
+use lib.ListN.{length, getD, drop}
+use Rattle.rules.specs.Fields.{byteAt}
+use Rattle.rules.specs.Editions.{Edition}
+use Rattle.rules.specs.Index.{Entry, entry, itemAt, entriesOf, slotBytes}
+use Rattle.rules.specs.Index.Walk.{walkAll, slotsOf, walk-none, walk-entry}
+use Rattle.rules.specs.Index.Items.{faultless, headOf, entryType, stepSlots, step-entry, step-gap, Stands, sound-entry, sound-gap, gapAt, gapSlots, gap-slots, gap-fits, entries-gap, walk-gap, rest-sound, entries-entry, type-drop}
+use Rattle.editions.specs.View.{editionView}
 use Rattle.slots.specs.declared.Head.{Head}
 use Rattle.slots.specs.declared.Spot.{Spot}
 use Rattle.slots.specs.View.{spotView, slots-is, slot-is, entry-in, spot-view, spot-in, head-spot}
@@ -18,7 +20,7 @@ use Rattle.index.specs.declared.Stop.{Stop}
 use Rattle.index.specs.declared.Stop.the-variants.{End as noMore, At}
 use Rattle.index.specs.declared.Next.{Next}
 use Rattle.index.specs.declared.Next.the-variants.{End, Found}
-use Rattle.index.specs.View.{Inside, itemsFrom, headView, Past, past-items, past-inside}
+use Rattle.index.specs.View.{Inside, SumsFrom, Behind, sums-behind, itemsFrom, headView, Past, past-items, past-inside}
 
 -- the entries that a cursor has before it
 abbrev pub entriesFrom : List ℕ → Cursor → List Entry
@@ -31,11 +33,13 @@ pub record Walks (s : List ℕ) (c : Cursor) : Type 0 where
 
 -- a step to the entry at a spot
 pub record Arrives (s : List ℕ) (c : Cursor) (p : Spot) (d : Cursor) : Type 0 where
+  pub edition : d .edition ≡ c .edition
+  pub of : p .edition ≡ c .edition
   pub entries : entriesFrom s c ≡ spotView s p ∷ entriesFrom s d
   pub walks : Walks s d
   pub less : d .left < c .left
   pub spot : SpotIn s p
-  pub view : spotView s p ≡ headOf (p .slot .0) (drop (p .at .0) s)
+  pub view : spotView s p ≡ headOf (editionView (p .edition)) (p .slot .0) (drop (p .at .0) s)
   pub place : p .at .0 + 64 * c .slot .0 ≡ c .at .0 + 64 * p .slot .0  -- as far apart in bytes as in slots
   pub after : d .at .0 ≡ p .at .0 + 64 * spotView s p .slots
   pub number : d .slot .0 ≡ p .slot .0 + spotView s p .slots
@@ -44,13 +48,17 @@ pub record Arrives (s : List ℕ) (c : Cursor) (p : Spot) (d : Cursor) : Type 0 
 
 -- a step over what stands at a spot: an entry, or an unused slot
 pub record Onward (s : List ℕ) (c : Cursor) (p : Spot) (d : Cursor) : Type 0 where
+  pub edition : d .edition ≡ c .edition
+  pub of : p .edition ≡ c .edition
+  pub here : (p .at .0 ≡ c .at .0) × (p .slot .0 ≡ c .slot .0) × (p .kind ≡ getD s (c .at .0) 0)
+  pub past : Past c (stepSlots (editionView (c .edition)) (c .left) (drop (c .at .0) s)) d
   pub walks : Walks s d
   pub less : d .left < c .left
   pub place : d .at .0 + 64 * c .slot .0 ≡ c .at .0 + 64 * d .slot .0
   pub ahead : c .slot .0 ≤ d .slot .0
   pub ends : d .slot .0 + d .left ≡ c .slot .0 + c .left
-  pub entry : entryType (p .kind) ≡ true → Arrives s c p d
-  pub unused : entryType (p .kind) ≡ false → entriesFrom s d ≡ entriesFrom s c
+  pub entry : entryType (editionView (p .edition)) (p .kind) ≡ true → Arrives s c p d
+  pub unused : entryType (editionView (p .edition)) (p .kind) ≡ false → entriesFrom s d ≡ entriesFrom s c
 
 unfoldable pub Stops : List ℕ → Cursor → Stop → Type 0
 Stops s c noMore = entriesFrom s c ≡ []
@@ -58,6 +66,8 @@ Stops s c (At p d) = Arrives s c p d
 
 -- a step to an entry whose numbers are read
 pub record Step (s : List ℕ) (c : Cursor) (h : Head) (d : Cursor) : Type 0 where
+  pub edition : d .edition ≡ c .edition
+  pub of : h .edition ≡ c .edition
   pub entries : entriesFrom s c ≡ headView s h ∷ entriesFrom s d
   pub walks : Walks s d
   pub less : d .left < c .left
@@ -65,6 +75,8 @@ pub record Step (s : List ℕ) (c : Cursor) (h : Head) (d : Cursor) : Type 0 whe
   pub place : h .at .0 + 64 * c .slot .0 ≡ c .at .0 + 64 * h .slot .0
   pub after : d .at .0 ≡ h .at .0 + 64 * h .slots
   pub number : d .slot .0 ≡ h .slot .0 + h .slots
+  pub ahead : c .slot .0 ≤ h .slot .0
+  pub ends : d .slot .0 + d .left ≡ c .slot .0 + c .left
 
 unfoldable pub Told : List ℕ → Cursor → Next → Type 0
 Told s c End = entriesFrom s c ≡ []
@@ -75,40 +87,53 @@ slots-entry : (e : Entry) → e .slots ≡ slotsOf (entry e)
 unfolding slotsOf
 slots-entry e = refl
 
-module _ (s : List ℕ) (c : Cursor) (walks : Walks s c) (more : 0 < c .left) (type : entryType (getD s (c .at .0) 0) ≡ true) where
+module _ (s : List ℕ) (c : Cursor) (walks : Walks s c) (more : 0 < c .left) where
+  abbrev ed : Edition
+  ed = editionView (c .edition)
+
   abbrev here : Entry
-  here = headOf (c .slot .0) (drop (c .at .0) s)
+  here = headOf ed (c .slot .0) (drop (c .at .0) s)
 
-  stands : Stands (c .left) (c .slot .0) (drop (c .at .0) s)
-  stands = sound-entry (c .left) (c .slot .0) (drop (c .at .0) s) more (walks .sound) (ap entryType (type-drop s (c .at .0)) ∙ type)
+  -- it goes on by n slots
+  module _ (n : ℕ) (count : n ≡ stepSlots ed (c .left) (drop (c .at .0) s)) (d : Cursor) (past : Past c n d) where
+    module _ (type : entryType ed (getD s (c .at .0) 0) ≡ true) where
+      type-here : entryType ed (byteAt (drop (c .at .0) s) 0) ≡ true
+      type-here = ap (entryType ed) (type-drop s (c .at .0)) ∙ type
 
-  module _ (n : ℕ) (count : n ≡ here .slots) where
-    pub slots-left : n ≤ c .left
-    slots-left = omega (arith, count, stands .fits)
+      stands : Stands ed (c .left) (c .slot .0) (drop (c .at .0) s)
+      stands = sound-entry ed (c .left) (c .slot .0) (drop (c .at .0) s) more (walks .sound) type-here
 
-    module _ (d : Cursor) (past : Past c n d) where
-      behind : itemsFrom s d ≡ walkAll (c .left - here .slots) (c .slot .0 + here .slots) (drop (slotBytes * here .slots) (drop (c .at .0) s))
-      behind = rw count at (past-items s c n d past)
+      whole : n ≡ here .slots
+      whole = count ∙ step-entry ed (c .left) (drop (c .at .0) s) (c .slot .0) type-here
 
-      pub behind-walks : Walks s d
+      slots-left : n ≤ c .left
+      slots-left = omega (arith, whole, stands .fits)
+
+      behind : itemsFrom s d ≡ walkAll ed (c .left - here .slots) (c .slot .0 + here .slots) (drop (slotBytes * here .slots) (drop (c .at .0) s))
+      behind = rw whole at (past-items s c n d past)
+
+      behind-walks : Walks s d
       behind-walks = record {
         inside = past-inside s c n d past (walks .inside) slots-left;
-        sound = rw behind (rest-sound (c .left) (c .slot .0) (drop (c .at .0) s) more (walks .sound) (entry here) (stands .item) (here .slots) (slots-entry here));
+        sound = rw behind (rest-sound ed (c .left) (c .slot .0) (drop (c .at .0) s) more (walks .sound) (entry here) (stands .item) (here .slots) (slots-entry here));
       }
 
-      pub behind-less : d .left < c .left
-      behind-less = omega (arith, past .left, count, stands .low)
+      behind-less : d .left < c .left
+      behind-less = omega (arith, past .left, whole, stands .low)
 
-      pub reached : (p : Spot) → p .at .0 ≡ c .at .0 → p .slot .0 ≡ c .slot .0 → p .kind ≡ getD s (c .at .0) 0 → n ≤ 256 → Arrives s c p d
-      reached p place number kind few =
-          let view : spotView s p ≡ here = spot-view s (c .at .0) (c .slot .0) p place number kind type in
-          let slots : n ≡ spotView s p .slots = count ∙ ap (λ (e : Entry). e .slots) (sym view) in
+      reached : (p : Spot) → p .edition ≡ c .edition → p .at .0 ≡ c .at .0 → p .slot .0 ≡ c .slot .0 → p .kind ≡ getD s (c .at .0) 0 → n ≤ 256 → Arrives s c p d
+      reached p of place number kind few =
+          let own : editionView (p .edition) ≡ ed = ap editionView of in
+          let view : spotView s p ≡ here = spot-view ed s (c .at .0) (c .slot .0) p own place number kind type in
+          let slots : n ≡ spotView s p .slots = whole ∙ ap (λ (e : Entry). e .slots) (sym view) in
           record {
-            entries = entries-entry (c .left) (c .slot .0) (drop (c .at .0) s) more here (stands .item) ∙ rw (view, behind);
+            edition = past .edition;
+            of = of;
+            entries = entries-entry ed (c .left) (c .slot .0) (drop (c .at .0) s) more here (stands .item) ∙ rw (view, behind);
             walks = behind-walks;
             less = behind-less;
-            spot = spot-in s (c .at .0) (c .slot .0) p place number kind type (entry-in s (c .at .0) (c .slot .0) (c .left) stands (walks .inside .fits) (walks .inside .short) (omega (arith, count, few)));
-            view = view ∙ ap₂ (λ (j q : ℕ). headOf j (drop q s)) (sym number) (sym place);
+            spot = spot-in ed s (c .at .0) (c .slot .0) p own place number kind type (entry-in ed s (c .at .0) (c .slot .0) (c .left) stands (walks .inside .fits) (walks .inside .short) (omega (arith, whole, few)));
+            view = view ∙ rw (own, number, place);
             place = omega (arith, place, number);
             after = omega (arith, past .at, place, slots);
             number = omega (arith, past .slot, number, slots);
@@ -116,81 +141,130 @@ module _ (s : List ℕ) (c : Cursor) (walks : Walks s c) (more : 0 < c .left) (t
             ends = omega (arith, past .slot, past .left, slots-left);
           }
 
+    -- over a slot that starts no entry, or several that are left over
+    module _ (type : entryType ed (getD s (c .at .0) 0) ≡ false) where
+      gap-here : entryType ed (byteAt (drop (c .at .0) s) 0) ≡ false
+      gap-here = ap (entryType ed) (type-drop s (c .at .0)) ∙ type
+
+      pub gap-is : itemAt ed (c .left) (c .slot .0) (drop (c .at .0) s) ≡ gapAt ed (c .left) (c .slot .0) (drop (c .at .0) s)
+      gap-is = sound-gap ed (c .left) (c .slot .0) (drop (c .at .0) s) more (walks .sound) gap-here
+
+      pub gap-count : n ≡ gapSlots ed (c .left) (drop (c .at .0) s)
+      gap-count = count ∙ step-gap ed (c .left) (drop (c .at .0) s) gap-here
+
+      gap-bounds : (1 ≤ n) × (n ≤ c .left)
+      gap-bounds = rw gap-count (gap-fits ed (c .left) (c .slot .0) (drop (c .at .0) s) more)
+
+      pub gap-behind : itemsFrom s d ≡ walkAll ed (c .left - gapSlots ed (c .left) (drop (c .at .0) s)) (c .slot .0 + gapSlots ed (c .left) (drop (c .at .0) s)) (drop (slotBytes * gapSlots ed (c .left) (drop (c .at .0) s)) (drop (c .at .0) s))
+      gap-behind = rw gap-count at (past-items s c n d past)
+
+      skip-entries : entriesFrom s d ≡ entriesFrom s c
+      skip-entries = ap entriesOf gap-behind ∙ sym (entries-gap ed (c .left) (c .slot .0) (drop (c .at .0) s) more gap-is)
+
+      pub skip-walks : Walks s d
+      skip-walks = record {
+        inside = past-inside s c n d past (walks .inside) (gap-bounds .1);
+        sound =
+            rw (past-items s c n d past)
+            (rest-sound ed (c .left) (c .slot .0) (drop (c .at .0) s) more (walks .sound) (gapAt ed (c .left) (c .slot .0) (drop (c .at .0) s)) gap-is n (gap-count ∙ sym (gap-slots ed (c .left) (c .slot .0) (drop (c .at .0) s))));
+      }
+
+    -- over either
+    by-type : {A : Type 0} → (entryType ed (getD s (c .at .0) 0) ≡ true → A) → (entryType ed (getD s (c .at .0) 0) ≡ false → A) → A
+    by-type {A} f g = by (entryType ed (getD s (c .at .0) 0)) refl
+      where
+        by : (t : Bool) → entryType ed (getD s (c .at .0) 0) ≡ t → A
+        by true e = f e
+        by false e = g e
+
+    pub onward-walks : Walks s d
+    onward-walks = by-type (λ t. behind-walks t) (λ f. skip-walks f)
+
+    pub onward-less : d .left < c .left
+    onward-less = by-type (λ t. behind-less t) (λ f. omega (arith, past .left, gap-bounds f))
+
+    pub onward : n ≤ 256 → (p : Spot) → p .edition ≡ c .edition → p .at .0 ≡ c .at .0 → p .slot .0 ≡ c .slot .0 → p .kind ≡ getD s (c .at .0) 0 → Onward s c p d
+    onward few p of place number kind =
+        let own : entryType ed (getD s (c .at .0) 0) ≡ entryType (editionView (p .edition)) (p .kind) = rw (of, kind) in
+        record {
+          edition = past .edition;
+          of = of;
+          here = (place, number, kind);
+          past = rw count at past;
+          walks = onward-walks;
+          less = onward-less;
+          place = omega (arith, past .at, past .slot);
+          ahead = omega (arith, past .slot);
+          ends = by-type (λ t. omega (arith, past .slot, past .left, slots-left t)) (λ f. omega (arith, past .slot, past .left, gap-bounds f));
+          entry = λ t. reached (own ∙ t) p of place number kind few;
+          unused = λ f. skip-entries (own ∙ f);
+        }
+
+    -- what stands there, then the rest
+    pub over-items : itemsFrom s c ≡ itemAt ed (c .left) (c .slot .0) (drop (c .at .0) s) ∷ itemsFrom s d
+    over-items =
+        let a : List ℕ = drop (c .at .0) s in
+        by-type
+        (λ t. walk-entry ed (c .left) (c .slot .0) a more here (stands t .item) ∙ rw (stands t .item, behind t))
+        (λ f. walk-gap ed (c .left) (c .slot .0) a more (gap-is f) ∙ rw (gap-is f, gap-behind f))
+
+-- ---- the walk depends on the image from the cursor on
+module _ (s t : List ℕ) (c : Cursor) (long : length t ≡ length s) (same : drop (c .at .0) t ≡ drop (c .at .0) s) where
+  pub items-kept : itemsFrom t c ≡ itemsFrom s c
+  items-kept = ap (walkAll (editionView (c .edition)) (c .left) (c .slot .0)) same
+
+  pub walks-kept : Walks s c → Walks t c
+  walks-kept w = record {
+    inside = record { fits = omega (arith, long, w .inside .fits); short = omega (arith, long, w .inside .short); numbers = w .inside .numbers };
+    sound = rw items-kept (w .sound);
+  }
+
+-- what a walk goes on by is left
+pub step-left : (s : List ℕ) (c : Cursor) → Walks s c → 0 < c .left → stepSlots (editionView (c .edition)) (c .left) (drop (c .at .0) s) ≤ c .left
+step-left s c walks more = by (entryType ed (byteAt a 0)) refl
+  where
+    ed : Edition
+    ed = editionView (c .edition)
+
+    a : List ℕ
+    a = drop (c .at .0) s
+
+    by : (t : Bool) → entryType ed (byteAt a 0) ≡ t → stepSlots ed (c .left) a ≤ c .left
+    by true e = omega (arith, step-entry ed (c .left) a (c .slot .0) e, sound-entry ed (c .left) (c .slot .0) a more (walks .sound) e .fits)
+    by false e = omega (arith, step-gap ed (c .left) a e, gap-fits ed (c .left) (c .slot .0) a more)
+
 -- the numbers of the entry at a spot
-pub step-read : (s : List ℕ) (c : Cursor) (p : Spot) (d : Cursor) → Arrives s c p d → (h : Head) → headView s h ≡ headOf (p .slot .0) (drop (p .at .0) s) → h .at .0 ≡ p .at .0
+pub step-read : (s : List ℕ) (c : Cursor) (p : Spot) (d : Cursor) → Arrives s c p d → (h : Head) → h .edition ≡ p .edition
+    → headView s h ≡ headOf (editionView (p .edition)) (p .slot .0) (drop (p .at .0) s) → h .at .0 ≡ p .at .0
     → Step s c h d
-step-read s c p d r h view place =
-    let n : h .slots ≡ spotView s p .slots = slots-is s (p .at .0) (p .slot .0) h view ∙ ap (λ (e : Entry). e .slots) (sym (r .view)) in
-    let k : h .slot .0 ≡ p .slot .0 = slot-is s (p .at .0) (p .slot .0) h view in
+step-read s c p d r h of view place =
+    let ed : Edition = editionView (p .edition) in
+    let n : h .slots ≡ spotView s p .slots = slots-is ed s (p .at .0) (p .slot .0) h view ∙ ap (λ (e : Entry). e .slots) (sym (r .view)) in
+    let k : h .slot .0 ≡ p .slot .0 = slot-is ed s (p .at .0) (p .slot .0) h view in
     record {
+      edition = r .edition;
+      of = of ∙ r .of;
       entries = r .entries ∙ ap (λ (e : Entry). e ∷ entriesFrom s d) (r .view ∙ sym view);
       walks = r .walks;
       less = r .less;
-      head = head-spot s p h (r .view ∙ sym view) place (r .spot);
+      head = head-spot s p h (r .view ∙ sym view) of place (r .spot);
       place = omega (arith, place, k, r .place);
       after = omega (arith, place, n, r .after);
       number = omega (arith, k, n, r .number);
+      ahead = omega (arith, k, r .ahead);
+      ends = r .ends;
     }
-
--- ---- a step over an unused slot
-one-slot : (k : ℕ) → 1 ≡ slotsOf (unused k)
-unfolding slotsOf
-one-slot k = refl
-
-module _ (s : List ℕ) (c : Cursor) (walks : Walks s c) (more : 0 < c .left) (type : entryType (getD s (c .at .0) 0) ≡ false) where
-  pub item-is : itemAt (c .left) (c .slot .0) (drop (c .at .0) s) ≡ unused (c .slot .0)
-  item-is = sound-unused (c .left) (c .slot .0) (drop (c .at .0) s) more (walks .sound) (ap entryType (type-drop s (c .at .0)) ∙ type)
-
-  module _ (d : Cursor) (past : Past c 1 d) where
-    pub skip-entries : entriesFrom s d ≡ entriesFrom s c
-    skip-entries = ap entriesOf (past-items s c 1 d past) ∙ sym (entries-unused (c .left) (c .slot .0) (drop (c .at .0) s) more item-is)
-
-    pub skip-walks : Walks s d
-    skip-walks = record {
-      inside = past-inside s c 1 d past (walks .inside) (omega arith);
-      sound = rw (past-items s c 1 d past) (rest-sound (c .left) (c .slot .0) (drop (c .at .0) s) more (walks .sound) (unused (c .slot .0)) item-is 1 (one-slot (c .slot .0)));
-    }
-
--- ---- a step over either
-module _ (s : List ℕ) (c : Cursor) (walks : Walks s c) (more : 0 < c .left) (n : ℕ) (count : n ≡ headOf (c .slot .0) (drop (c .at .0) s) .slots) where
-  by-type : {A : Type 0} → (entryType (getD s (c .at .0) 0) ≡ true → A) → (entryType (getD s (c .at .0) 0) ≡ false → A) → A
-  by-type {A} f g = by (entryType (getD s (c .at .0) 0)) refl
-    where
-      by : (t : Bool) → entryType (getD s (c .at .0) 0) ≡ t → A
-      by true e = f e
-      by false e = g e
-
-  -- an unused slot is one
-  one : entryType (getD s (c .at .0) 0) ≡ false → n ≡ 1
-  unfolding entryType unusableAt
-  one f =
-      let r : runType (getD s (c .at .0) 0) ≡ false = or-false _ _ f .0 in
-      count ∙ ap (λ (e : Entry). e .slots) (head-unusable (c .slot .0) (drop (c .at .0) s) (ap runType (type-drop s (c .at .0)) ∙ r))
-
-  pub step-left : n ≤ c .left
-  step-left = by-type (λ t. slots-left s c walks more t n count) (λ f. omega (arith, one f))
-
-  pub onward : n ≤ 256 → (d : Cursor) → Past c n d → (p : Spot) → p .at .0 ≡ c .at .0 → p .slot .0 ≡ c .slot .0 → p .kind ≡ getD s (c .at .0) 0 → Onward s c p d
-  onward few d past p place number kind =
-      let over-one : entryType (getD s (c .at .0) 0) ≡ false → Past c 1 d = λ f. rw (one f) at past in
-      record {
-        walks = by-type (λ t. behind-walks s c walks more t n count d past) (λ f. skip-walks s c walks more f d (over-one f));
-        less = by-type (λ t. behind-less s c walks more t n count d past) (λ f. omega (arith, over-one f .left));
-        place = omega (arith, past .at, past .slot);
-        ahead = omega (arith, past .slot);
-        ends = omega (arith, past .slot, past .left, step-left);
-        entry = λ t. reached s c walks more (ap entryType (sym kind) ∙ t) n count d past p place number kind few;
-        unused = λ f. skip-entries s c walks more (ap entryType (sym kind) ∙ f) d (over-one (ap entryType (sym kind) ∙ f));
-      }
 
 pub no-more : (s : List ℕ) (c : Cursor) → c .left ≡ 0 → entriesFrom s c ≡ []
 unfolding entriesOf
-no-more s c z = rw (z, walk-none (c .slot .0) (drop (c .at .0) s))
+no-more s c z = rw (z, walk-none (editionView (c .edition)) (c .slot .0) (drop (c .at .0) s))
 
 -- an entry that is reached from further on is reached from the start
-pub reached-before : (s : List ℕ) (b c : Cursor) (p : Spot) (d : Cursor) → entriesFrom s c ≡ entriesFrom s b → b .slot .0 ≤ c .slot .0 → c .slot .0 + c .left ≡ b .slot .0 + b .left
+pub reached-before : (s : List ℕ) (b c : Cursor) (p : Spot) (d : Cursor) → c .edition ≡ b .edition → entriesFrom s c ≡ entriesFrom s b → b .slot .0 ≤ c .slot .0 → c .slot .0 + c .left ≡ b .slot .0 + b .left
     → c .at .0 + 64 * b .slot .0 ≡ b .at .0 + 64 * c .slot .0 → Arrives s c p d → Arrives s b p d
-reached-before s b c p d e l n q r = record {
+reached-before s b c p d of e l n q r = record {
+  edition = r .edition ∙ of;
+  of = r .of ∙ of;
   entries = sym e ∙ r .entries;
   walks = r .walks;
   less = omega (arith, r .less);
@@ -202,3 +276,35 @@ reached-before s b c p d e l n q r = record {
   ahead = omega (arith, r .ahead);
   ends = r .ends ∙ n;
 }
+
+-- ---- the cursor behind a step stands in the same walk
+module _ (s : List ℕ) (c d : Cursor) where
+  pub behind-onward : (p : Spot) → Onward s c p d → Behind c d
+  behind-onward p r = record { edition = r .edition; ahead = r .ahead; place = r .place; ends = r .ends }
+
+  pub behind-arrives : (p : Spot) → Arrives s c p d → Behind c d
+  behind-arrives p r = record {
+    edition = r .edition;
+    ahead = omega (arith, r .number, r .ahead);
+    place = omega (arith, r .after, r .number, r .place);
+    ends = r .ends;
+  }
+
+  pub behind-step : (h : Head) → Step s c h d → Behind c d
+  behind-step h r = record {
+    edition = r .edition;
+    ahead = omega (arith, r .number, r .ahead);
+    place = omega (arith, r .after, r .number, r .place);
+    ends = r .ends;
+  }
+
+-- and the sums of the walk serve it
+module _ (s t : List ℕ) (c : Cursor) (sums : SumsFrom s t c) (d : Cursor) where
+  pub sums-onward : (p : Spot) → Onward s c p d → SumsFrom s t d
+  sums-onward p r = sums-behind s t c sums d (behind-onward s c d p r)
+
+  pub sums-arrives : (p : Spot) → Arrives s c p d → SumsFrom s t d
+  sums-arrives p r = sums-behind s t c sums d (behind-arrives s c d p r)
+
+  pub sums-step : (h : Head) → Step s c h d → SumsFrom s t d
+  sums-step h r = sums-behind s t c sums d (behind-step s c d h r)

@@ -4,8 +4,10 @@ use mathlib.Core.Path.{_≡_, sym, ap, _∙_}
 use mathlib.Core.Bool.{true}
 use mathlib.Core.List.{List}
 use lib.ListN.{length}
+use Rattle.rules.specs.Lists.{All}
 use Rattle.rules.specs.SuperBlock.{Geometry}
-use Rattle.rules.specs.Index.{itemsOf, entriesOf}
+use Rattle.rules.specs.Index.{itemsOf, indexSound, entriesOf}
+use Rattle.rules.specs.Regions.{regionsSound}
 use Rattle.rules.specs.Paths.{pathsSound}
 use Rattle.rules.specs.Refusals.{Verdict, refused, accepted, Volume, entries, judge}
 use Rattle.rules.specs.Refusals.Laws.{judge-opens}
@@ -16,6 +18,9 @@ use Rattle.index.specs.Steps.{Walks, entriesFrom}
 use Rattle.index.specs.declared.Cursor.{Cursor}
 use Rattle.super_block.specs.View.{Judged as GoodSuper}
 use Rattle.super_block.specs.Ends.{sound-walks}
+use Rattle.ordering.specs.Regions.{Small}
+use Rattle.regions.specs.Bounds.{good-bounded}
+use Rattle.regions.specs.Gathering.{sound-small}
 use Rattle.judging.specs.declared.Judged.{Judged}
 use Rattle.judging.specs.declared.Judged.the-variants.{Refused, Good}
 
@@ -38,15 +43,24 @@ module _ (s : List ℕ) (g : Held) (opened : Opened s g) where
   pub opened-long : 512 ≤ length s
   opened-long = judge-opens s (volumeOf s (geometryView g)) opened .length-low
 
+  pub opened-sound : indexSound s (geometryView g) (itemsOf s (geometryView g)) ≡ true
+  opened-sound = judge-opens s (volumeOf s (geometryView g)) opened .index-sound
+
   -- the cursor at slot 1 walks through its entries
   pub opened-walks : (c : Cursor) → itemsFrom s c ≡ itemsOf s (geometryView g) → Inside s c → Walks s c
-  opened-walks c i h = sound-walks s (geometryView g) c i h (judge-opens s (volumeOf s (geometryView g)) opened .index-sound)
+  opened-walks c i h = sound-walks s (geometryView g) c i h opened-sound
 
   pub opened-entries : (c : Cursor) → itemsFrom s c ≡ itemsOf s (geometryView g) → entriesFrom s c ≡ entries (volumeOf s (geometryView g))
   opened-entries c i = ap entriesOf i
 
   pub opened-paths : (c : Cursor) → itemsFrom s c ≡ itemsOf s (geometryView g) → pathsSound (entriesFrom s c) ≡ true
   opened-paths c i = ap pathsSound (opened-entries c i) ∙ judge-opens s (volumeOf s (geometryView g)) opened .paths-sound
+
+  -- no end of a region passes 64 bits
+  pub opened-small : (c : Cursor) → itemsFrom s c ≡ itemsOf s (geometryView g) → All Small (entriesFrom s c)
+  opened-small c i =
+      sound-small s g (good-bounded (length s) g (opened-super .good) (opened-super .short)) c
+      (ap (regionsSound (geometryView g)) (opened-entries c i) ∙ judge-opens s (volumeOf s (geometryView g)) opened .regions-sound)
 
 -- ---- what a judgement says
 module _ (s : List ℕ) (r : Judged) (told : judgedView s r ≡ judge s) where

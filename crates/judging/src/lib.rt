@@ -44,12 +44,13 @@ pub fn judge_index(img: &[u8], g: Geometry, keys: &mut [u64], tmp: &mut [u64]) -
     requires { ⌜ SuperGood (now img) g × (min (g .index / 64) 4_094 ≤ length (now keys)) × (length (now keys) ≤ length (now tmp)) ⌝ }
     ensures { λ r. ⌜ Keeps (now (img .entry)) (judge (now (img .entry))) (now (keys .exit)) r ⌝ }
 {
-    if !super_block::index_sound(img, g) {
+    let mut sums = [0u8; sums::ROOM];
+    let from = super_block::first_slot(img, g, &mut sums);
+    if !super_block::index_sound(img, &sums, g, from) {
         return Kept::Refused(6);
     }
-    let from = super_block::first_slot(img, g);
-    let paths = path_rules::paths_sound(img, from, keys, tmp);
-    match regions::judge_regions(img, g, from, keys, tmp) {
+    let paths = path_rules::paths_sound(img, &sums, from, keys, tmp);
+    match regions::judge_regions(img, &sums, g, from, keys, tmp) {
         Regions::Unsound => Kept::Refused(7),
         Regions::From(i) => {
             if !paths {

@@ -1,26 +1,21 @@
 -- The whole text: a volume's, as its writers cut it, and the listing by what the judgement says.
-use Prim.Native.Nat.{ℕ, _+_, _^_, _≤_, _<_}
+use Prim.Native.Nat.{ℕ, _+_, _≤_, _<_}
 use mathlib.Core.Path.{_≡_, ap, _∙_}
 use mathlib.Core.List.{List, [], _∷_, _++_}
 use lib.ListN.{length, length-append}
 use native.Mathlib.Omega.{arith}
 use borrow.Author.Tests.{le-leb, lt-leb}
 use Rattle.rules.specs.Lists.{only}
-use Rattle.rules.specs.Index.{Entry, volumeName, itemsOf}
+use Rattle.rules.specs.Index.{Entry, volumeName}
 use Rattle.rules.specs.Regions.{heldBlocks}
 use Rattle.rules.specs.Paths.{isLive}
 use Rattle.rules.specs.Text.{text, joined, decimal}
 use Rattle.rules.specs.Refusals.{refused, entries, judge}
-use Rattle.rules.specs.Refusals.Laws.{need-true, need-false, judge-opens}
+use Rattle.rules.specs.Refusals.Laws.{need-true, need-false}
 use Rattle.rules.specs.Listing.{countLine, refusedLine, volumeText, listingOf}
 use Rattle.geometry.specs.View.{geometryView}
 use Rattle.geometry.specs.declared.Geometry.{Geometry as Held}
-use Rattle.index.specs.declared.Cursor.{Cursor}
-use Rattle.index.specs.View.{Inside, itemsFrom}
-use Rattle.index.specs.Steps.{entriesFrom}
-use Rattle.regions.specs.Bounds.{good-bounded}
-use Rattle.free_runs.specs.Sums.{held-fits}
-use Rattle.judging.specs.View.{Opened, volumeOf, opened-super, opened-walks}
+use Rattle.judging.specs.View.{Opened, volumeOf}
 use Rattle.listing.specs.Lines.{liveText}
 
 -- `live N held M`
@@ -58,9 +53,3 @@ module _ (s : List ℕ) where
     pub listing-opened : (g : Held) → Opened s g → listingOf s ≡ openedText s g
     unfolding listingOf volumeText liveText
     listing-opened g e = ap (volumeText s) (need-true 1 (judge s) (le-leb (length s) 65_536 short) ∙ e)
-
--- the blocks held fit 64 bits
-pub opened-held : (s : List ℕ) (g : Held) → Opened s g → (c : Cursor) → itemsFrom s c ≡ itemsOf s (geometryView g) → Inside s c → heldBlocks (entriesFrom s c) < 2 ^ 64
-opened-held s g o c i h =
-    let p = opened-super s g o in
-    held-fits s c g (opened-walks s g o c i h) (good-bounded (length s) g (p .good) (p .short)) (rw i (judge-opens s (volumeOf s (geometryView g)) o .regions-sound))

@@ -13,18 +13,19 @@ use text::put_number;
 ghost use mathlib.Core.Path.{_≡_};
 ghost use mathlib.Core.Bool.{true};
 ghost use mathlib.Core.List.{List, _++_};
-ghost use Prim.Native.Nat.{ℕ, _+_, _^_, _≤_, _<_};
+ghost use Prim.Native.Nat.{ℕ, _+_, _≤_};
 ghost use lib.ListN.{length, take};
-ghost use Rattle.rules.specs.Lists.{only};
+ghost use Rattle.rules.specs.Lists.{only, All};
 ghost use Rattle.rules.specs.Text.{decimal};
 ghost use Rattle.rules.specs.Index.{runType};
 ghost use Rattle.rules.specs.Paths.{isLive};
-ghost use Rattle.rules.specs.Regions.{heldBlocks};
 ghost use Rattle.rules.specs.Listing.{markOf, lineOf, refusedLine, listingOf};
+ghost use Rattle.ordering.specs.Regions.{Small};
 ghost use Rattle.slots.specs.View.{headView, HeadIn};
 ghost use Rattle.index.specs.Steps.{Walks, entriesFrom};
 ghost use Rattle.judging.specs.View.{Opened};
 ghost use Rattle.text.specs.Wrote.{Wrote};
+ghost use Rattle.index.specs.View.{SumsFrom};
 ghost use Rattle.listing.specs.Lines.{numbersText, dateText, pathText, entryText, liveText, liveOne};
 ghost use Rattle.listing.specs.Volume.{countText, nameText, entriesText, openedText};
 
@@ -105,14 +106,14 @@ fn put_entry(img: &[u8], h: Head, out: &mut [u8], at: usize) -> usize
     at
 }
 
-fn put_lines(img: &[u8], from: Cursor, out: &mut [u8], at: usize) -> usize
-    requires { ⌜ Walks (now img) from × (at + length (liveText (entriesFrom (now img) from)) + 30 ≤ length (now out)) ⌝ }
+fn put_lines(img: &[u8], sums: &[u8], from: Cursor, out: &mut [u8], at: usize) -> usize
+    requires { ⌜ Walks (now img) from × (at + length (liveText (entriesFrom (now img) from)) + 30 ≤ length (now out)) × SumsFrom (now img) (now sums) from ⌝ }
     ensures { λ r. ⌜ Wrote (now (out .entry)) at (liveText (entriesFrom (now (img .entry)) from)) (now (out .exit)) r ⌝ }
 {
     let mut c = from;
     let mut end = at;
     loop {
-        match index::next_entry(img, c) {
+        match index::next_entry(img, sums, c) {
             Next::End => return end,
             Next::Found(h, rest) => {
                 end = put_entry(img, h, out, end);
@@ -130,14 +131,14 @@ fn live_one(h: Head) -> u64
     if slots::is_live(h.kind) { 1 } else { 0 }
 }
 
-fn count_live(img: &[u8], from: Cursor) -> u64
-    requires { ⌜ Walks (now img) from ⌝ }
+fn count_live(img: &[u8], sums: &[u8], from: Cursor) -> u64
+    requires { ⌜ Walks (now img) from × SumsFrom (now img) (now sums) from ⌝ }
     ensures { λ r. ⌜ r ≡ length (only isLive (entriesFrom (now (img .entry)) from)) ⌝ }
 {
     let mut c = from;
     let mut live = 0;
     loop {
-        match index::next_entry(img, c) {
+        match index::next_entry(img, sums, c) {
             Next::End => return live,
             Next::Found(h, rest) => {
                 live += live_one(h);
@@ -167,13 +168,13 @@ fn put_name(img: &[u8], out: &mut [u8]) -> usize
 }
 
 // The lines, and the count behind them.
-fn put_entries(img: &[u8], from: Cursor, out: &mut [u8], at: usize) -> usize
-    requires { ⌜ Walks (now img) from × (heldBlocks (entriesFrom (now img) from) < 2 ^ 64) × (at + length (entriesText (entriesFrom (now img) from)) + 30 ≤ length (now out)) ⌝ }
+fn put_entries(img: &[u8], sums: &[u8], from: Cursor, out: &mut [u8], at: usize) -> usize
+    requires { ⌜ Walks (now img) from × All Small (entriesFrom (now img) from) × (at + length (entriesText (entriesFrom (now img) from)) + 30 ≤ length (now out)) × SumsFrom (now img) (now sums) from ⌝ }
     ensures { λ r. ⌜ Wrote (now (out .entry)) at (entriesText (entriesFrom (now (img .entry)) from)) (now (out .exit)) r ⌝ }
 {
-    let end = put_lines(img, from, out, at);
-    let live = count_live(img, from);
-    let held = free_runs::held_blocks(img, from);
+    let end = put_lines(img, sums, from, out, at);
+    let live = count_live(img, sums, from);
+    let held = free_runs::held_blocks(img, sums, from);
     put_count(out, end, live, held)
 }
 
@@ -182,8 +183,9 @@ fn put_volume(img: &[u8], g: Geometry, out: &mut [u8]) -> usize
     ensures { λ r. ⌜ Wrote (now (out .entry)) 0 (openedText (now (img .entry)) g) (now (out .exit)) r ⌝ }
 {
     let end = put_name(img, out);
-    let from = super_block::first_slot(img, g);
-    put_entries(img, from, out, end)
+    let mut sums = [0u8; sums::ROOM];
+    let from = super_block::first_slot(img, g, &mut sums);
+    put_entries(img, &sums, from, out, end)
 }
 
 // What the program writes for an image, which is judged once. The second promise lets a caller lend the text on.

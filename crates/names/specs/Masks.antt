@@ -1,10 +1,10 @@
 -- Sets of ASCII characters as bits, one for each: which bits stand for the characters of a name.
 use Prim.Native.Nat.{ℕ, _/_, _%_, _^_, _<_}
-use mathlib.Core.Path.{_≡_, refl, sym}
-use mathlib.Core.Bool.{Bool, true, false, _&&_, not}
+use mathlib.Core.Path.{_≡_, refl}
+use mathlib.Core.Bool.{Bool, _&&_, not}
 use lib.Dec.{eqb, ltb}
 use Rattle.rules.specs.Lists.{pick, any}
-use Rattle.rules.specs.Lists.Laws.{checked, check-at}
+use Rattle.rules.specs.Lists.Laws.{checked, check-at, agree, agreed}
 use Rattle.rules.specs.Utf8.{within}
 use Rattle.rules.specs.Names.{slash, dot, isMark, codeGood}
 
@@ -15,18 +15,6 @@ bitOf low high b = eqb (pick (ltb b 64) low high / 2 ^ (b % 64) % 2) 1
 -- neither slash nor dot, on which the parts of a path turn
 unfoldable pub turnsNothing : ℕ → Bool
 turnsNothing b = not (eqb b slash) && not (eqb b dot)
-
--- the same answer, as an answer
-unfoldable agree : Bool → Bool → Bool
-agree true b = b
-agree false b = not b
-
-agreed : (a b : Bool) → agree a b ≡ true → a ≡ b
-unfolding agree
-agreed true true e = refl
-agreed true false e = sym e
-agreed false true e = e
-agreed false false e = refl
 
 -- the characters of a name, and those of them that turn nothing
 abbrev nameBits : ℕ → Bool

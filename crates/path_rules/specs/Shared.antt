@@ -9,6 +9,7 @@ use borrow.Author.Tests.{eq-eqb}
 use Rattle.rules.specs.Lists.{pick, All}
 use Rattle.rules.specs.Lists.Laws.{pick-true}
 use Rattle.rules.specs.Fields.{Bytes, upToZero}
+use Rattle.rules.specs.Editions.{Edition}
 use Rattle.rules.specs.Index.{nameField}
 use Rattle.rules.specs.Index.Frame.{take-same}
 use Rattle.laws.proofs.Lists.Every.{all-weaken}
@@ -46,49 +47,49 @@ common-with bs m n p q h k =
     (omega (arith, h .0), omega (arith, k .0), take-same m p bs (h .1) (min m n) (omega arith) ∙ sym (take-same n q bs (k .1) (min m n) (omega arith)))
 
 -- ---- the first bytes of a key's path are the pivot's, as many as its number says
-abbrev pub Shares : List ℕ → ℕ → List ℕ → ℕ → Type 0
-Shares s at pivot k = (sharedBy (numberOf k) ≤ length (keyPath s at k)) × (take (sharedBy (numberOf k)) (keyPath s at k) ≡ take (sharedBy (numberOf k)) pivot)
+abbrev pub Shares : Edition → List ℕ → ℕ → List ℕ → ℕ → Type 0
+Shares ed s at pivot k = (sharedBy (numberOf k) ≤ length (keyPath ed s at k)) × (take (sharedBy (numberOf k)) (keyPath ed s at k) ≡ take (sharedBy (numberOf k)) pivot)
 
 -- and one pivot serves all the keys
-pub record Pivoted (s : List ℕ) (at : ℕ) (keys : List ℕ) : Type 0 where
+pub record Pivoted (ed : Edition) (s : List ℕ) (at : ℕ) (keys : List ℕ) : Type 0 where
   pub pivot : List ℕ
-  pub each : All (Shares s at pivot) keys
+  pub each : All (Shares ed s at pivot) keys
 
-module _ (s : List ℕ) (at : ℕ) where
+module _ (ed : Edition) (s : List ℕ) (at : ℕ) where
   -- two such keys, and x and y are the names at their places
-  pub names-common : (a b : ℕ) (x y : List ℕ) (d : ℕ) → x ≡ nameField (drop (at + 64 * (a % 65_536)) s) → y ≡ nameField (drop (at + 64 * (b % 65_536)) s)
-      → d ≡ min (sharedBy (a / 65_536)) (sharedBy (b / 65_536)) → Pivoted s at (a ∷ b ∷ []) → Common d (upToZero x) (upToZero y)
+  pub names-common : (a b : ℕ) (x y : List ℕ) (d : ℕ) → x ≡ nameField ed (drop (at + 64 * (a % 65_536)) s) → y ≡ nameField ed (drop (at + 64 * (b % 65_536)) s)
+      → d ≡ min (sharedBy (a / 65_536)) (sharedBy (b / 65_536)) → Pivoted ed s at (a ∷ b ∷ []) → Common d (upToZero x) (upToZero y)
   unfolding keyPath numberOf placeOf
   names-common a b x y d ex ey e p = rw (ex, ey, e) (common-with (p .pivot) _ _ _ _ (p .each .0) (p .each .1 .0))
 
   -- ---- the keys from place i on, where k stands
   module _ (keys : List ℕ) (i k : ℕ) (more : i < length keys) (here : k ≡ getD keys i 0) where
-    pub pivoted-first : Pivoted s at (drop i keys) → Pivoted s at (k ∷ drop (i + 1) keys)
+    pub pivoted-first : Pivoted ed s at (drop i keys) → Pivoted ed s at (k ∷ drop (i + 1) keys)
     pivoted-first p = rw (here-and-behind keys i k more here) at p
 
-    pub pivoted-next : (a : ℕ) → Pivoted s at (a ∷ drop i keys) → Pivoted s at (k ∷ drop (i + 1) keys)
+    pub pivoted-next : (a : ℕ) → Pivoted ed s at (a ∷ drop i keys) → Pivoted ed s at (k ∷ drop (i + 1) keys)
     pivoted-next a p = pivoted-first (record { pivot = p .pivot; each = p .each .1 })
 
-    pub pivoted-two : (a : ℕ) → Pivoted s at (a ∷ drop i keys) → Pivoted s at (a ∷ k ∷ [])
+    pub pivoted-two : (a : ℕ) → Pivoted ed s at (a ∷ drop i keys) → Pivoted ed s at (a ∷ k ∷ [])
     pivoted-two a p =
-        let q : Pivoted s at (a ∷ k ∷ drop (i + 1) keys) = rw (here-and-behind keys i k more here) at p in
+        let q : Pivoted ed s at (a ∷ k ∷ drop (i + 1) keys) = rw (here-and-behind keys i k more here) at p in
         record { pivot = q .pivot; each = (q .each .0, (q .each .1 .0, tt)) }
 
   -- ---- keys without numbers share nothing, and those that are numbered what their numbers say, in any order
-  small-shares : (k : ℕ) → k < 65_536 → Shares s at [] k
+  small-shares : (k : ℕ) → k < 65_536 → Shares ed s at [] k
   unfolding numberOf sharedBy pick
   small-shares k h =
       let e : k / 65_536 ≡ 0 = omega arith in
       rw e (omega arith, refl)
 
-  pub pivoted-small : (ks : List ℕ) → All (λ k. k < 65_536) ks → Pivoted s at ks
+  pub pivoted-small : (ks : List ℕ) → All (λ k. k < 65_536) ks → Pivoted ed s at ks
   pivoted-small ks h = record { pivot = []; each = all-weaken _ _ small-shares ks h }
 
-  pub pivoted-sorted : Bytes s → (old before after : List ℕ) → Numbered s at old before → Sorted (keyLe s at) before after → Pivoted s at after
+  pub pivoted-sorted : Bytes s → (old before after : List ℕ) → Numbered ed s at old before → Sorted (keyLe ed s at) before after → Pivoted ed s at after
   pivoted-sorted bytes old before after n sorted = record {
     pivot = n .pivot;
     each =
         perm-all _ (sorted .same)
         (rw (n .keys)
-        (all-weaken _ _ (λ k l. shared-bytes (n .pivot) (keyPath s at k) (n .few) (path-bytes s at k bytes) (numberOf k) l) (map (loaded s at (n .pivot)) old) (loaded-stand s at (n .pivot) old)));
+        (all-weaken _ _ (λ k l. shared-bytes (n .pivot) (keyPath ed s at k) (n .few) (path-bytes ed s at k bytes) (numberOf k) l) (map (loaded ed s at (n .pivot)) old) (loaded-stand ed s at (n .pivot) old)));
   }

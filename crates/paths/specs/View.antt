@@ -9,17 +9,21 @@ use lib.ListN.{drop}
 use lib.Dec.{eqb, leb}
 use Rattle.rules.specs.Lists.{pick, isSome, only, first, eqList}
 use Rattle.rules.specs.Lists.Laws.{first-chosen, first-unchosen}
+use Rattle.rules.specs.Editions.{Edition}
 use Rattle.rules.specs.SuperBlock.{Geometry}
 use Rattle.rules.specs.Names.{slash, isBelow}
-use Rattle.rules.specs.Index.{Entry, runType, nameField, slotAt}
+use Rattle.rules.specs.Index.{Entry, runType, staleType, nameField, slotAt}
 use Rattle.rules.specs.Paths.{isLive}
 use Rattle.rules.specs.Comparing.{looked, searchLooked}
+use Rattle.editions.specs.View.{editionView}
+use Rattle.editions.specs.declared.Edition.{Edition as Held}
 use Rattle.slots.specs.declared.Head.{Head}
 use Rattle.slots.specs.declared.Spot.{Spot}
 use Rattle.slots.specs.View.{headView, spotView, HeadIn}
 use Rattle.paths.specs.declared.Search.{Search}
 use Rattle.paths.specs.declared.Search.the-variants.{Nothing, Entry as found}
 use Rattle.index.specs.declared.Cursor.{Cursor}
+use Rattle.index.specs.View.{Behind}
 use Rattle.index.specs.Steps.{Walks, entriesFrom}
 use Rattle.paths.specs.declared.Hit.{Hit}
 use Rattle.paths.specs.declared.Hit.the-variants.{Nothing as noHit, Entry as hitAt}
@@ -40,10 +44,14 @@ passes what p e = soughtKind what (e .kind) && reaches (what .end) p (e .path)
 unfoldable pub compares : Sought → Entry → Bool
 compares what e = soughtKind what (e .kind)
 
--- only runs are looked for, by a path or by one that they lie below
-pub record OfRuns (what : Sought) : Type 0 where
-  pub one : runType (what .one) ≡ true
-  pub other : runType (what .other) ≡ true
+-- a type of runs that are entries
+abbrev pub StartsRun : Edition → ℕ → Type 0
+StartsRun ed t = (runType t ≡ true) × (staleType ed t ≡ false)
+
+-- only runs are looked for that are entries of the edition, by a path or by one that they lie below
+pub record OfRuns (ed : Edition) (what : Sought) : Type 0 where
+  pub one : StartsRun ed (what .one)
+  pub other : StartsRun ed (what .other)
   pub end : (what .end ≡ 0) ⊎ (what .end ≡ slash)
 
 -- by slots
@@ -52,14 +60,15 @@ liveFrom k e = isLive e && leb k (e .slot)
 
 -- the name of the run at a spot, by all its bytes, and how many of them are looked at
 abbrev pub nameOf : List ℕ → Spot → List ℕ
-nameOf s e = nameField (drop (e .at .0) s)
+nameOf s e = nameField (editionView (e .edition)) (drop (e .at .0) s)
 
 unfoldable pub spotLooked : List ℕ → Spot → Sought → List ℕ → ℕ
 spotLooked s e what p = pick (compares what (spotView s e)) (looked (nameOf s e) p) 0
 
--- what a search from a cursor looks at is the rules' sum over the entries that it meets; the cursor stands where its slot lies
+-- what a search from a cursor looks at is the rules' sum over the entries that it meets; the cursor is of its edition
+-- and stands where its slot lies
 abbrev pub LookedFrom : List ℕ → Cursor → (Entry → Bool) → (Entry → Bool) → List ℕ → ℕ → Type 0
-LookedFrom s c sought passing p n = (g : Geometry) → c .at .0 ≡ slotAt s g (c .slot .0) → n ≡ searchLooked s g sought passing p (entriesFrom s c)
+LookedFrom s c sought passing p n = (g : Geometry) → editionView (c .edition) ≡ g .edition → c .at .0 ≡ slotAt s g (c .slot .0) → n ≡ searchLooked s g sought passing p (entriesFrom s c)
 
 -- ---- what was found
 unfoldable pub searchView : List ℕ → Search → Option Entry
@@ -93,6 +102,23 @@ module _ (s : List ℕ) (o : Option Entry) (r : Search) (told : Searched s o r) 
   unfolding searchView Lies
   searched-entry h e = (sym (told .view) ∙ ap (searchView s) e, rw e at (told .lies))
 
+-- and is of the edition that the search goes by
+unfoldable pub FoundOf : Held → Search → Type 0
+FoundOf ed Nothing = Unit {0}
+FoundOf ed (found h) = h .edition ≡ ed
+
+pub none-of : (ed : Held) → FoundOf ed Nothing
+unfolding FoundOf
+none-of ed = tt
+
+pub some-of : (ed : Held) (h : Head) → h .edition ≡ ed → FoundOf ed (found h)
+unfolding FoundOf
+some-of ed h e = e
+
+pub found-of : (ed : Held) (r : Search) → FoundOf ed r → (h : Head) → r ≡ found h → h .edition ≡ ed
+unfolding FoundOf
+found-of ed r told h e = rw e at told
+
 -- ---- the same, and what lies behind it
 pub record HitAt (s : List ℕ) (p : Entry → Bool) (es : List Entry) (h : Head) (rest : Cursor) : Type 0 where
   pub chosen : only p es ≡ headView s h ∷ only p (entriesFrom s rest)
@@ -123,6 +149,23 @@ module _ (s : List ℕ) (p : Entry → Bool) (es : List Entry) where
 
   pub hit-first : (h : Head) (rest : Cursor) → HitAt s p es h rest → first p es ≡ some (headView s h)
   hit-first h rest k = first-chosen p es (headView s h) (only p (entriesFrom s rest)) (k .chosen)
+
+-- it is of the walk's edition, and the walk goes on behind it
+unfoldable pub HitOf : Cursor → Hit → Type 0
+HitOf c noHit = Unit {0}
+HitOf c (hitAt h rest) = (h .edition ≡ c .edition) × Behind c rest
+
+pub no-hit-of : (c : Cursor) → HitOf c noHit
+unfolding HitOf
+no-hit-of c = tt
+
+pub some-hit-of : (c : Cursor) (h : Head) (rest : Cursor) → h .edition ≡ c .edition → Behind c rest → HitOf c (hitAt h rest)
+unfolding HitOf
+some-hit-of c h rest e b = (e, b)
+
+pub hit-of : (c : Cursor) (r : Hit) → HitOf c r → (h : Head) (rest : Cursor) → r ≡ hitAt h rest → (h .edition ≡ c .edition) × Behind c rest
+unfolding HitOf
+hit-of c r told h rest e = rw e at told
 
 unfoldable pub isFound : Search → Bool
 isFound Nothing = false

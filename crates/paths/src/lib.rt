@@ -20,10 +20,12 @@ ghost use Rattle.rules.specs.Index.{runType};
 ghost use Rattle.rules.specs.Paths.{isLive, liveAt, deletedAt, lookup, nextLive, directoryLive, anyBelow};
 ghost use Rattle.rules.specs.Comparing.{looked};
 ghost use Rattle.comparing.specs.Walk.{isThen};
+ghost use Rattle.editions.specs.View.{editionView};
 ghost use Rattle.slots.specs.View.{spotView, SpotIn};
+ghost use Rattle.index.specs.View.{SumsFrom};
 ghost use Rattle.index.specs.Steps.{Walks, entriesFrom};
 ghost use Rattle.paths.specs.Searching.{FewLooked, Goes, Ends};
-ghost use Rattle.paths.specs.View.{Hits, Searched, isFound, passes, soughtKind, compares, OfRuns, liveFrom, nameOf, spotLooked, LookedFrom};
+ghost use Rattle.paths.specs.View.{Hits, HitOf, Searched, FoundOf, isFound, passes, soughtKind, compares, OfRuns, liveFrom, nameOf, spotLooked, LookedFrom};
 
 // The entry that a search found.
 pub enum Search {
@@ -87,12 +89,12 @@ fn compare_name(img: &[u8], e: Spot, path: &[u8], end: u8) -> Compared
     ensures { λ r. ⌜ r .same ≡ isThen end (nameOf (now (img .entry)) e) (now (path .entry)) ⌝ }
     ensures counted { λ r. ⌜ r .looked ≡ looked (nameOf (now (img .entry)) e) (now (path .entry)) ⌝ }
 {
-    compare(slots::name_field(img, e.at), path, end)
+    compare(slots::name_field(img, e.edition, e.at), path, end)
 }
 
 // Whether what stands there passes (`same`), and how many bytes of its name were looked at. A name is compared only where the type is sought.
 fn passes(img: &[u8], e: Spot, what: Sought, path: &[u8]) -> Compared
-    requires { ⌜ OfRuns what × (soughtKind what (e .kind) ≡ true → SpotIn (now img) e) ⌝ }
+    requires { ⌜ OfRuns (editionView (e .edition)) what × (soughtKind what (e .kind) ≡ true → SpotIn (now img) e) ⌝ }
     ensures { λ r. ⌜ r .same ≡ passes what (now (path .entry)) (spotView (now (img .entry)) e) ⌝ }
     ensures counted { λ r. ⌜ r .looked ≡ spotLooked (now (img .entry)) e what (now (path .entry)) ⌝ }
 {
@@ -114,14 +116,14 @@ enum Way {
 // A search taken on over the slots that stand by themselves, as most do, up to one with more slots behind it. The loop does not wait for a count to
 // know where the next slot is.
 fn pass_singles(img: &[u8], from: Cursor, what: Sought, path: &[u8], looked: usize) -> Way
-    requires { ⌜ Walks (now img) from × OfRuns what × FewLooked from looked ⌝ }
+    requires { ⌜ Walks (now img) from × OfRuns (editionView (from .edition)) what × FewLooked from looked ⌝ }
     ensures { λ r. ⌜ Goes (now (img .entry)) what (now (path .entry)) from looked r ⌝ }
 {
     let mut c = from;
     let mut n = looked;
     while 0 < c.left {
         let at = c.at;
-        if !slots::is_single(img, at) {
+        if !slots::is_single(img, c.edition, at) {
             return Way::On(c, n);
         }
         let next = single(img, c);
@@ -138,8 +140,8 @@ fn pass_singles(img: &[u8], from: Cursor, what: Sought, path: &[u8], looked: usi
 }
 
 // The same over all slots: where it comes to a cursor, that is the end.
-fn pass_over(img: &[u8], from: Cursor, what: Sought, path: &[u8]) -> Way
-    requires { ⌜ Walks (now img) from × OfRuns what ⌝ }
+fn pass_over(img: &[u8], sums: &[u8], from: Cursor, what: Sought, path: &[u8]) -> Way
+    requires { ⌜ Walks (now img) from × OfRuns (editionView (from .edition)) what × SumsFrom (now img) (now sums) from ⌝ }
     ensures { λ r. ⌜ Goes (now (img .entry)) what (now (path .entry)) from 0 r ⌝ }
     ensures ended { λ r. ⌜ Ends r ⌝ }
 {
@@ -152,7 +154,7 @@ fn pass_over(img: &[u8], from: Cursor, what: Sought, path: &[u8]) -> Way
                 if at.left == 0 {
                     return Way::On(at, looked);
                 }
-                let next = further(img, at);
+                let next = further(img, sums, at);
                 let here = next.here;
                 let rest = next.rest;
                 let tried = passes(img, here, what, path);
@@ -178,18 +180,19 @@ pub struct Found {
 }
 
 // The first entry that passes, and where the walk goes on behind it. Only its numbers are read.
-fn next_hit(img: &[u8], from: Cursor, what: Sought, path: &[u8]) -> Met
-    requires { ⌜ Walks (now img) from × OfRuns what ⌝ }
+fn next_hit(img: &[u8], sums: &[u8], from: Cursor, what: Sought, path: &[u8]) -> Met
+    requires { ⌜ Walks (now img) from × OfRuns (editionView (from .edition)) what × SumsFrom (now img) (now sums) from ⌝ }
     ensures { λ r. ⌜ Hits (now (img .entry)) (passes what (now (path .entry))) (entriesFrom (now (img .entry)) from) (r .hit) ⌝ }
     ensures counted { λ r. ⌜ LookedFrom (now (img .entry)) from (compares what) (passes what (now (path .entry))) (now (path .entry)) (r .looked) ⌝ }
+    ensures edition { λ r. ⌜ HitOf from (r .hit) ⌝ }
 {
-    match pass_over(img, from, what, path) {
+    match pass_over(img, sums, from, what, path) {
         Way::On(_, looked) => Met {
             hit: Hit::Nothing,
             looked,
         },
         Way::At(e, rest, looked) => {
-            let h = slots::head_at(img, e.at, e.slot);
+            let h = slots::head_at(img, e.edition, e.at, e.slot);
             Met {
                 hit: Hit::Entry(h, rest),
                 looked,
@@ -199,12 +202,13 @@ fn next_hit(img: &[u8], from: Cursor, what: Sought, path: &[u8]) -> Met
 }
 
 // The first entry that passes, and how many bytes of names were looked at.
-fn seek(img: &[u8], from: Cursor, what: Sought, path: &[u8]) -> Found
-    requires { ⌜ Walks (now img) from × OfRuns what ⌝ }
+fn seek(img: &[u8], sums: &[u8], from: Cursor, what: Sought, path: &[u8]) -> Found
+    requires { ⌜ Walks (now img) from × OfRuns (editionView (from .edition)) what × SumsFrom (now img) (now sums) from ⌝ }
     ensures { λ r. ⌜ Searched (now (img .entry)) (first (passes what (now (path .entry))) (entriesFrom (now (img .entry)) from)) (r .entry) ⌝ }
     ensures counted { λ r. ⌜ LookedFrom (now (img .entry)) from (compares what) (passes what (now (path .entry))) (now (path .entry)) (r .looked) ⌝ }
+    ensures edition { λ r. ⌜ FoundOf (from .edition) (r .entry) ⌝ }
 {
-    let met = next_hit(img, from, what, path);
+    let met = next_hit(img, sums, from, what, path);
     let hit = met.hit;
     match hit {
         Hit::Nothing => Found {
@@ -228,45 +232,55 @@ pub fn is_found(s: Search) -> bool
 }
 
 // Whether an entry passes.
-fn any_passes(img: &[u8], from: Cursor, what: Sought, path: &[u8]) -> bool
-    requires { ⌜ Walks (now img) from × OfRuns what ⌝ }
+fn any_passes(img: &[u8], sums: &[u8], from: Cursor, what: Sought, path: &[u8]) -> bool
+    requires { ⌜ Walks (now img) from × OfRuns (editionView (from .edition)) what × SumsFrom (now img) (now sums) from ⌝ }
     ensures { λ r. ⌜ r ≡ any (passes what (now (path .entry))) (entriesFrom (now (img .entry)) from) ⌝ }
 {
-    let found = seek(img, from, what, path).entry;
+    let found = seek(img, sums, from, what, path).entry;
     is_found(found)
 }
 
 // The live entry of the path, and how many bytes of names were looked at.
-pub fn find(img: &[u8], from: Cursor, path: &[u8]) -> Found
-    requires { ⌜ Walks (now img) from ⌝ }
+pub fn find(img: &[u8], sums: &[u8], from: Cursor, path: &[u8]) -> Found
+    requires { ⌜ Walks (now img) from × SumsFrom (now img) (now sums) from ⌝ }
     ensures { λ r. ⌜ Searched (now (img .entry)) (lookup (now (path .entry)) (entriesFrom (now (img .entry)) from)) (r .entry) ⌝ }
     ensures counted { λ r. ⌜ LookedFrom (now (img .entry)) from isLive (liveAt (now (path .entry))) (now (path .entry)) (r .looked) ⌝ }
+    ensures edition { λ r. ⌜ FoundOf (from .edition) (r .entry) ⌝ }
 {
-    seek(img, from, LIVE, path)
+    seek(img, sums, from, LIVE, path)
 }
 
 // The live entry of the path.
-pub fn lookup(img: &[u8], from: Cursor, path: &[u8]) -> Search
-    requires { ⌜ Walks (now img) from ⌝ }
+pub fn lookup(img: &[u8], sums: &[u8], from: Cursor, path: &[u8]) -> Search
+    requires { ⌜ Walks (now img) from × SumsFrom (now img) (now sums) from ⌝ }
     ensures { λ r. ⌜ Searched (now (img .entry)) (lookup (now (path .entry)) (entriesFrom (now (img .entry)) from)) r ⌝ }
 {
-    find(img, from, path).entry
+    find(img, sums, from, path).entry
 }
 
-// The first deleted entry of the path.
-pub fn first_deleted(img: &[u8], from: Cursor, path: &[u8]) -> Hit
-    requires { ⌜ Walks (now img) from ⌝ }
+// The first deleted entry of the path. Where none are kept there is none.
+pub fn first_deleted(img: &[u8], sums: &[u8], from: Cursor, path: &[u8]) -> Hit
+    requires { ⌜ Walks (now img) from × SumsFrom (now img) (now sums) from ⌝ }
     ensures { λ r. ⌜ Hits (now (img .entry)) (deletedAt (now (path .entry))) (entriesFrom (now (img .entry)) from) r ⌝ }
+    ensures place { λ r. ⌜ HitOf from r ⌝ }
 {
-    next_hit(img, from, DELETED, path).hit
+    let ed = from.edition;
+    if !ed.keeps_deleted() {
+        return Hit::Nothing;
+    }
+    next_hit(img, sums, from, DELETED, path).hit
 }
 
 // Whether a deleted entry has this path.
-pub fn any_deleted(img: &[u8], from: Cursor, path: &[u8]) -> bool
-    requires { ⌜ Walks (now img) from ⌝ }
+pub fn any_deleted(img: &[u8], sums: &[u8], from: Cursor, path: &[u8]) -> bool
+    requires { ⌜ Walks (now img) from × SumsFrom (now img) (now sums) from ⌝ }
     ensures { λ r. ⌜ r ≡ any (deletedAt (now (path .entry))) (entriesFrom (now (img .entry)) from) ⌝ }
 {
-    any_passes(img, from, DELETED, path)
+    let ed = from.edition;
+    if !ed.keeps_deleted() {
+        return false;
+    }
+    any_passes(img, sums, from, DELETED, path)
 }
 
 // Whether the entry is live and starts at this slot or behind it.
@@ -277,17 +291,18 @@ fn is_from(e: Spot, slot: Slot) -> bool
 }
 
 // The live entry with the lowest first slot not below this one.
-pub fn next_live(img: &[u8], from: Cursor, slot: Slot) -> Search
-    requires { ⌜ Walks (now img) from ⌝ }
+pub fn next_live(img: &[u8], sums: &[u8], from: Cursor, slot: Slot) -> Search
+    requires { ⌜ Walks (now img) from × SumsFrom (now img) (now sums) from ⌝ }
     ensures { λ r. ⌜ Searched (now (img .entry)) (nextLive (slot .0) (entriesFrom (now (img .entry)) from)) r ⌝ }
+    ensures edition { λ r. ⌜ FoundOf (from .edition) r ⌝ }
 {
     let mut at = from;
     loop {
-        match next_spot(img, at) {
+        match next_spot(img, sums, at) {
             Stop::End => return Search::Nothing,
             Stop::At(e, rest) => {
                 if is_from(e, slot) {
-                    let h = slots::head_at(img, e.at, e.slot);
+                    let h = slots::head_at(img, e.edition, e.at, e.slot);
                     return Search::Entry(h);
                 }
                 at = rest;
@@ -297,17 +312,17 @@ pub fn next_live(img: &[u8], from: Cursor, slot: Slot) -> Search
 }
 
 // Whether a live directory has this path.
-pub fn directory_live(img: &[u8], from: Cursor, path: &[u8]) -> bool
-    requires { ⌜ Walks (now img) from ⌝ }
+pub fn directory_live(img: &[u8], sums: &[u8], from: Cursor, path: &[u8]) -> bool
+    requires { ⌜ Walks (now img) from × SumsFrom (now img) (now sums) from ⌝ }
     ensures { λ r. ⌜ r ≡ directoryLive (entriesFrom (now (img .entry)) from) (now (path .entry)) ⌝ }
 {
-    any_passes(img, from, DIRECTORY, path)
+    any_passes(img, sums, from, DIRECTORY, path)
 }
 
 // Whether a live entry lies below this path.
-pub fn any_below(img: &[u8], from: Cursor, path: &[u8]) -> bool
-    requires { ⌜ Walks (now img) from ⌝ }
+pub fn any_below(img: &[u8], sums: &[u8], from: Cursor, path: &[u8]) -> bool
+    requires { ⌜ Walks (now img) from × SumsFrom (now img) (now sums) from ⌝ }
     ensures { λ r. ⌜ r ≡ anyBelow (now (path .entry)) (entriesFrom (now (img .entry)) from) ⌝ }
 {
-    any_passes(img, from, BELOW, path)
+    any_passes(img, sums, from, BELOW, path)
 }

@@ -50,16 +50,17 @@ pub record BlocksIn (n : ℕ) (p : Placing) (bytes : ℕ) : Type 0 where
   pub region : p .end * blockLength (p .new) ≤ n
   pub holds : bytes ≤ (p .end - p .start) * blockLength (p .new)
 
--- so does the run in the index, by the kind and the path
-pub record SiteIn (s : List ℕ) (kind : ℕ) (path bytes : List ℕ) (p : Placing) : Type 0 where
-  pub long : 512 ≤ length s
-  pub short : length s ≤ 16_777_216
+-- so does the run in the index, by the kind and the path; its end is one that is read back as it is stored
+pub record SiteIn (n kind : ℕ) (path bytes : List ℕ) (p : Placing) : Type 0 where
+  pub long : 512 ≤ n
+  pub short : n ≤ 16_777_216
   pub indexLow : 128 ≤ p .new .indexBytes
-  pub indexFits : p .new .indexBytes ≤ length s
-  pub slots : p .slots ≡ 1 + continuing kind (length path)
-  pub few : p .slots ≤ 5
+  pub indexFits : p .new .indexBytes ≤ n
+  pub slots : p .slots ≡ 1 + continuing (p .new .edition) kind (length path)
+  pub few : p .slots ≤ 6
+  pub past : p .end ≡ 1 → ⊥
   pub run : slotBytes * (p .slot + p .slots) ≤ p .new .indexBytes
-  pub blocks : BlocksIn (length s) p (length bytes)
+  pub blocks : BlocksIn n p (length bytes)
 
-abbrev pub NewIn : List ℕ → New → List ℕ → Placing → Type 0
-NewIn s new path p = SiteIn s (kindOf new) path (bytesOf new) p
+abbrev pub NewIn : ℕ → New → List ℕ → Placing → Type 0
+NewIn n new path p = SiteIn n (kindOf new) path (bytesOf new) p

@@ -39,16 +39,18 @@ fn put_blocks(img: &mut [u8], p: Site, bytes: &[u8])
 
 // ---- all of it
 
-// The head of the run, in an image of `len` bytes.
+// The head of the run, in an image of `len` bytes, with its end as it is stored.
 fn head_of(len: u64, p: Site, kind: u8, bytes: u64, stamp: u64) -> Head
     requires { ⌜ (len ≤ 16_777_216) × (p .new .index ≤ len) × (slotBytes * p .slot .0 ≤ p .new .index) ⌝ }
     ensures { λ r. ⌜ r ≡ siteHead len p kind bytes stamp ⌝ }
 {
     let index = units::index_start(len, p.new.index);
+    let edition = p.new.edition;
     let slot = p.slot;
     let start = p.start;
-    let end = p.end;
+    let end = edition.stored_end(p.end);
     Head {
+        edition,
         at: slot.offset(index),
         kind,
         slot,
@@ -62,7 +64,7 @@ fn head_of(len: u64, p: Site, kind: u8, bytes: u64, stamp: u64) -> Head
 
 // What is new, by its kind and its bytes. The super-block, the index and the region are written in this order.
 fn put_new(img: &mut [u8], p: Site, kind: u8, path: &[u8], bytes: &[u8], stamp: u64)
-    requires { ⌜ SiteIn (now img) kind (now path) (now bytes) (siteView p) ⌝ }
+    requires { ⌜ SiteIn (length (now img)) kind (now path) (now bytes) (siteView p) ⌝ }
     ensures { λ _. ⌜ now (img .exit) ≡ siteImage (now (img .entry)) kind (now (path .entry)) (now (bytes .entry)) (signedOf stamp) (siteView p) ⌝ }
 {
     let h = head_of(img.len() as u64, p, kind, bytes.len() as u64, stamp);
@@ -74,7 +76,7 @@ fn put_new(img: &mut [u8], p: Site, kind: u8, path: &[u8], bytes: &[u8], stamp: 
 
 // A file with these bytes, or a directory, of which no bytes are written.
 pub fn place(img: &mut [u8], p: Site, file: bool, path: &[u8], bytes: &[u8], stamp: u64)
-    requires { ⌜ NewIn (now img) (newOf file (now bytes)) (now path) (siteView p) ⌝ }
+    requires { ⌜ NewIn (length (now img)) (newOf file (now bytes)) (now path) (siteView p) ⌝ }
     ensures { λ _. ⌜ now (img .exit) ≡ created (now (img .entry)) (siteView p) (newOf file (now (bytes .entry))) (now (path .entry)) (signedOf stamp) ⌝ }
 {
     if file {

@@ -1,6 +1,6 @@
 -- Places for a run and for a file's blocks, by the tests that the code makes.
 use Prim.Native.Nat.{ℕ, zero, suc, _+_, _-_, _*_, _/_, _%_, _≤_, _<_}
-use mathlib.Core.Path.{_≡_, refl, sym, ap, _∙_}
+use mathlib.Core.Path.{_≡_, refl, sym, ap, ap₂, _∙_}
 use mathlib.Core.Bool.{Bool, true, false, _&&_}
 use mathlib.Core.List.{List}
 use mathlib.Core.Option.{Option, none, some}
@@ -11,18 +11,22 @@ use lib.Dec.{eqb, leb}
 use lib.IntN.{ℤ}
 use borrow.Author.Tests.{le-leb, lt-leb, eq-eqb}
 use Rattle.rules.specs.Lists.Laws.{pick-true, pick-false, and-right}
+use Rattle.rules.specs.Editions.{Edition}
 use Rattle.rules.specs.SuperBlock.{Geometry, mostIndexBytes, indexGood, blockLength, ceilingBlock, dataEnd, growIndex, withIndex, extendData, restamp}
 use Rattle.rules.specs.SuperBlock.Laws.{GoodGeometry, reserved-pos}
-use Rattle.rules.specs.Index.{Entry, itemsOf, slotBytes}
-use Rattle.rules.specs.Regions.{lowestFree}
+use Rattle.rules.specs.Index.{Entry, Item, itemsOf, slotBytes}
+use Rattle.rules.specs.Regions.{LowestRun, lowestFree}
+use Rattle.rules.specs.Regions.Laws.{lowest-is}
 use Rattle.rules.specs.Refusals.{Volume}
-use Rattle.rules.specs.Writing.{Site as Placing, Place, mayGrow, grownPlace, placeFrom, placeRun, placeFile, lowestUnused}
+use Rattle.rules.specs.Writing.{Site as Placing, Place, mayGrow, grownPlace, placeFrom, placesFor, placeRun, placeFile, lowestUnused}
 use Rattle.laws.proofs.Entries.Creating.{block-pos}
 use Rattle.laws.proofs.Images.Placing.{newGeometry}
+use Rattle.editions.specs.View.{editionView}
 use Rattle.geometry.specs.View.{geometryView, areasFit}
 use Rattle.geometry.specs.declared.Geometry.{Geometry as Held}
 use Rattle.index.specs.declared.Cursor.{Cursor}
 use Rattle.index.specs.View.{Inside, itemsFrom}
+use Rattle.places.specs.Cut.{PlacesFor}
 use Rattle.free_runs.specs.declared.Free.{Free}
 use Rattle.free_runs.specs.View.{freeView}
 use Rattle.planning.specs.declared.RunPlace.{RunPlace}
@@ -34,7 +38,12 @@ placeView (At k g) = some (record { slot = k .0; geometry = geometryView g })
 
 -- the cursor at the first slot of the index that g says
 abbrev pub Begins : List ℕ → Held → Cursor → Type 0
-Begins s g c = (itemsFrom s c ≡ itemsOf s (geometryView g)) × Inside s c
+Begins s g c = (itemsFrom s c ≡ itemsOf s (geometryView g)) × Inside s c × (c .edition ≡ g .edition)
+
+-- the slots that an entry of the path may have
+pub places-begin : (s : List ℕ) (g : Held) (c : Cursor) → Begins s g c → (path : List ℕ) (d : Cursor) → PlacesFor s c path d
+    → itemsFrom s d ≡ placesFor (editionView (g .edition)) path (itemsOf s (geometryView g))
+places-begin s g c b path d h = h .items ∙ ap₂ (λ (ed : Edition) (is : List Item). placesFor ed path is) (ap editionView (b .2)) (b .0)
 
 -- a site by its parts: g before the call, grown after any growth of the index
 abbrev pub siteFrom : Geometry → Geometry → ℕ → ℕ → ℕ → ℕ → ℤ → Placing
@@ -101,12 +110,12 @@ module _ (n : ℕ) (g : Geometry) (good : GoodGeometry n g) (k : ℕ) (h : Geome
   grown-at e slot first = rw (← is, first) (sym (pick-true _ _ (sym grown-fits ∙ e)))
 
 -- ---- by what unused slots there are
-module _ (n : ℕ) (v : Volume) (slots : ℕ) where
-  pub place-unused : (k : ℕ) → lowestUnused slots (v .items) ≡ some k → placeRun n v slots ≡ some (record { slot = k; geometry = v .geometry })
+module _ (n : ℕ) (v : Volume) (path : List ℕ) (slots : ℕ) where
+  pub place-unused : (k : ℕ) → lowestUnused slots (placesFor (v .geometry .edition) path (v .items)) ≡ some k → placeRun n v path slots ≡ some (record { slot = k; geometry = v .geometry })
   unfolding placeRun placeFrom
   place-unused k e = rw e
 
-  pub place-grown : lowestUnused slots (v .items) ≡ none → placeRun n v slots ≡ grownPlace n (growIndex (v .geometry) (slotBytes * slots))
+  pub place-grown : lowestUnused slots (placesFor (v .geometry .edition) path (v .items)) ≡ none → placeRun n v path slots ≡ grownPlace n (growIndex (v .geometry) (slotBytes * slots))
   unfolding placeRun placeFrom
   place-grown e = rw e
 
@@ -121,9 +130,16 @@ module _ (n : ℕ) (g : Geometry) (es : List Entry) where
   place-blocks zero h = absurd (h refl)
   place-blocks (suc k) h = refl
 
+  -- block 0 is reserved
+  pub place-past : 1 ≤ g .reserved → (k start : ℕ) → placeFile n g es k ≡ some start → start + k ≡ 1 → ⊥
+  unfolding placeFile LowestRun
+  place-past r zero start p e = let z : 0 ≡ start = cc in omega arith
+  place-past r (suc k) start p e = omega (arith, lowest-is es (suc k) (g .reserved) (ceilingBlock n g) (some start) p .0)
+
 -- ---- what an answer says, by what it is
-pub run-says : (n : ℕ) (v : Volume) (slots : ℕ) (r x : RunPlace) → placeView r ≡ placeRun n v slots → r ≡ x → (m : ℕ) → slots ≡ m → placeRun n v m ≡ placeView x
-run-says n v slots r x told e m k = ap (placeRun n v) (sym k) ∙ sym told ∙ ap placeView e
+pub run-says : (n : ℕ) (v : Volume) (path : List ℕ) (slots : ℕ) (r x : RunPlace) → placeView r ≡ placeRun n v path slots → r ≡ x
+    → (m : ℕ) → slots ≡ m → placeRun n v path m ≡ placeView x
+run-says n v path slots r x told e m k = ap (placeRun n v path) (sym k) ∙ sym told ∙ ap placeView e
 
 pub file-says : (n : ℕ) (g : Geometry) (es : List Entry) (k : ℕ) (r x : Free) → freeView r ≡ placeFile n g es k → r ≡ x
     → (m : ℕ) → k ≡ m → placeFile n g es m ≡ freeView x

@@ -1,6 +1,6 @@
--- What a plan says: the refusal of the create, or the image that it leaves and that the site lies in the image.
+-- What a plan says: the refusal of the create, or what it leaves of the tidied image, that the image opens, and that the site lies in one of its length.
 use Prim.Native.Nat.{ℕ, _+_, _-_, _*_, _≤_}
-use mathlib.Core.Path.{_≡_, refl, ap₂, _∙_}
+use mathlib.Core.Path.{_≡_, sym, ap, ap₂, _∙_}
 use mathlib.Core.Bool.{true, false}
 use mathlib.Core.List.{List}
 use mathlib.Core.Option.{none, some}
@@ -10,33 +10,39 @@ use lib.ListN.{length}
 use lib.IntN.{ℤ}
 use Rattle.rules.specs.Lists.{isSome}
 use Rattle.rules.specs.Lists.Laws.{is-some, is-none}
+use Rattle.rules.specs.Editions.{Edition}
 use Rattle.rules.specs.SuperBlock.{Geometry, blockLength, ceilingBlock, writable}
-use Rattle.rules.specs.SuperBlock.Laws.{areas-fit, ceiling-fits}
+use Rattle.rules.specs.SuperBlock.Laws.{reserved-pos, areas-fit, ceiling-fits}
 use Rattle.rules.specs.Names.{newPathGood, leading}
 use Rattle.rules.specs.Names.Laws.{new-path}
+use Rattle.rules.specs.Index.{continuing}
 use Rattle.rules.specs.Index.Laws.{continuing-new}
 use Rattle.rules.specs.Regions.{blocksNeeded}
 use Rattle.rules.specs.Regions.Laws.{needed-covers}
 use Rattle.rules.specs.Paths.{lookup}
-use Rattle.rules.specs.Refusals.{refused, Volume, entries, judge}
+use Rattle.rules.specs.Refusals.{refused, accepted, Volume, entries, judge}
 use Rattle.rules.specs.Refusals.Laws.{Opens, judge-opens}
 use Rattle.rules.specs.Writing.{Site as Placing, New, kindOf, bytesOf, nearestLive, Place, placeRun, placeFile, created, createOf, newSlots, newBlocks, siteOf}
-use Rattle.rules.specs.Writing.Laws.{refusedWrite, wrote, create-refused, create-later, create-name, create-live, create-orphan, create-slots, create-blocks, create-done}
+use Rattle.rules.specs.Writing.Laws.{refusedWrite, wrote, tidyImage, create-refused, create-later, create-name, create-live, create-orphan, create-slots, create-blocks, create-done}
 use Rattle.laws.proofs.Entries.Creating.{block-pos, place-fits}
 use Rattle.laws.proofs.Images.Sizes.{block-same}
 use Rattle.laws.proofs.Images.Placing.{newGeometry, Placed, run-place, RunFits, run-inside, Grown, place-grown, Sizes, new-sizes}
+use Rattle.editions.specs.View.{editionView}
 use Rattle.geometry.specs.View.{geometryView}
 use Rattle.geometry.specs.declared.Geometry.{Geometry as Held}
 use Rattle.judging.specs.View.{Opened, volumeOf}
 use Rattle.placing.specs.Site.{siteView, NewIn}
 use Rattle.placing.specs.declared.Site.{Site}
-use Rattle.planning.specs.Places.{siteFrom}
+use Rattle.planning.specs.Places.{siteFrom, place-past}
 use Rattle.planning.specs.declared.Plan.{Plan}
 use Rattle.planning.specs.declared.Plan.the-variants.{Refused, At}
 
 unfoldable pub Planned : List ℕ → New → List ℕ → ℤ → Plan → Type 0
 Planned s new path stamp (Refused n) = createOf s new path stamp ≡ refusedWrite s n
-Planned s new path stamp (At p) = (createOf s new path stamp ≡ wrote (created s (siteView p) new path stamp)) × NewIn s new path (siteView p)
+Planned s new path stamp (At p) =
+    (createOf s new path stamp ≡ wrote (created (tidyImage s (volumeOf s (geometryView (p .old)))) (siteView p) new path stamp))
+    × Opened s (p .old)
+    × NewIn (length s) new path (siteView p)
 
 -- ---- by the tests, in their order
 pub planned-refused : (s : List ℕ) (new : New) (path : List ℕ) (stamp : ℤ) (n : ℕ) → judge s ≡ refused n → Planned s new path stamp (Refused n)
@@ -89,20 +95,20 @@ module _ (s : List ℕ) (g : Held) (opened : Opened s g) where
 
   -- those passed, the places
   module _ (new : New) (path : List ℕ) (passed : Admitted s g path) where
-    pub few-slots : newSlots new path ≤ 5
-    few-slots = omega (arith, continuing-new (kindOf new) (length path) (new-path path (passed .named) .1))
+    pub few-slots : newSlots (editionView (g .edition)) new path ≤ 6
+    few-slots = omega (arith, continuing-new (editionView (g .edition)) (kindOf new) (length path) (new-path path (passed .named) .1))
 
-    pub planned-slots : (stamp : ℤ) → placeRun (length s) v (newSlots new path) ≡ none → Planned s new path stamp (Refused 15)
+    pub planned-slots : (stamp : ℤ) → placeRun (length s) v path (newSlots (editionView (g .edition)) new path) ≡ none → Planned s new path stamp (Refused 15)
     unfolding Planned
     planned-slots stamp r = create-slots s v opened (passed .current) new path stamp (passed .named) (passed .absent) (passed .nearest) r
 
     -- a place for the run
-    module _ (q : Place) (r : placeRun (length s) v (newSlots new path) ≡ some q) where
-      run-placed : Placed (length s) v (newSlots new path) q
-      run-placed = run-place (length s) v (newSlots new path) q r
+    module _ (q : Place) (r : placeRun (length s) v path (newSlots (editionView (g .edition)) new path) ≡ some q) where
+      run-placed : Placed (length s) v path (newSlots (editionView (g .edition)) new path) q
+      run-placed = run-place (length s) v path (newSlots (editionView (g .edition)) new path) q r
 
       pub run-grown : Grown (length s) (geometryView g) (q .geometry)
-      run-grown = place-grown (length s) v (newSlots new path) q (o .geometry-good) run-placed
+      run-grown = place-grown (length s) v path (newSlots (editionView (g .edition)) new path) q (o .geometry-good) run-placed
 
       pub planned-blocks : (stamp : ℤ) → placeFile (length s) (q .geometry) (entries v) (newBlocks (geometryView g) new) ≡ none
           → Planned s new path stamp (Refused 16)
@@ -125,20 +131,21 @@ module _ (s : List ℕ) (g : Held) (opened : Opened s g) where
               o .length-high,
             )
 
-        site-in : (stamp : ℤ) → NewIn s new path (siteOf v new path stamp q start)
+        site-in : (stamp : ℤ) → NewIn (length s) new path (siteOf v new path stamp q start)
         site-in stamp =
             let end : ℕ = start + newBlocks (geometryView g) new in
             let w : Geometry = newGeometry (geometryView g) (q .geometry) end stamp in
             let sizes : Sizes (length s) (geometryView g) (q .geometry) end w = new-sizes (length s) (geometryView g) (q .geometry) end stamp run-grown below in
-            let inside : RunFits (newSlots new path) q = run-inside s v o (newSlots new path) q run-placed in
+            let inside : RunFits (newSlots (editionView (g .edition)) new path) q = run-inside s v o path (newSlots (editionView (g .edition)) new path) q run-placed in
             let span : end - start ≡ newBlocks (geometryView g) new = omega arith in
             record {
               long = o .length-low;
               short = o .length-high;
               indexLow = sizes .good .index-low;
               indexFits = sizes .good .index-fits;
-              slots = refl;
+              slots = ap (λ (ed : Edition). 1 + continuing ed (kindOf new) (length path)) (sym (sizes .same .edition-same));
               few = few-slots;
+              past = place-past (length s) (q .geometry) (entries v) (reserved-pos (length s) (q .geometry) (run-grown .good)) (newBlocks (geometryView g) new) start b;
               run = omega (arith, inside .high, sizes .index-same);
               blocks = record {
                 field = sizes .good .field-high;
@@ -149,12 +156,14 @@ module _ (s : List ℕ) (g : Held) (opened : Opened s g) where
             }
 
         placed : (stamp : ℤ) (p : Placing) → p ≡ siteOf v new path stamp q start
-            → (createOf s new path stamp ≡ wrote (created s p new path stamp)) × NewIn s new path p
+            → (createOf s new path stamp ≡ wrote (created (tidyImage s (volumeOf s (p .old))) p new path stamp))
+            × (judge s ≡ accepted (volumeOf s (p .old)))
+            × NewIn (length s) new path p
         placed stamp p e =
             rw e
-            (create-done s v opened (passed .current) new path stamp (passed .named) (passed .absent) (passed .nearest) q r start b, site-in stamp)
+            (create-done s v opened (passed .current) new path stamp (passed .named) (passed .absent) (passed .nearest) q r start b, opened, site-in stamp)
 
-        pub planned-at : (stamp : ℤ) (slots blocks : ℕ) → slots ≡ newSlots new path → blocks ≡ newBlocks (geometryView g) new
+        pub planned-at : (stamp : ℤ) (slots blocks : ℕ) → slots ≡ newSlots (editionView (g .edition)) new path → blocks ≡ newBlocks (geometryView g) new
             → (p : Site) → siteView p ≡ siteFrom (geometryView g) (q .geometry) (q .slot) slots start blocks stamp → Planned s new path stamp (At p)
         unfolding Planned
         planned-at stamp slots blocks k n p e =

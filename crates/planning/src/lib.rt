@@ -1,5 +1,6 @@
 // What a create judges before it writes, and where it puts what it makes.
 
+use editions::Edition;
 use free_runs::Free;
 use geometry::Geometry;
 use index::Cursor;
@@ -18,12 +19,14 @@ ghost use Rattle.rules.specs.SuperBlock.{growIndex};
 ghost use Rattle.rules.specs.SuperBlock.Laws.{GoodGeometry};
 ghost use Rattle.rules.specs.Index.{Entry, slotBytes};
 ghost use Rattle.rules.specs.Writing.{newSlots, newBlocks, grownPlace, placeRun, placeFile};
+ghost use Rattle.editions.specs.View.{editionView};
 ghost use Rattle.geometry.specs.View.{geometryView};
 ghost use Rattle.regions.specs.Gathering.{HasRegions};
 ghost use Rattle.free_runs.specs.View.{freeView};
 ghost use Rattle.super_block.specs.View.{SuperGood};
 ghost use Rattle.judging.specs.View.{Opened, volumeOf};
 ghost use Rattle.judging.specs.Keeping.{KeysOf};
+ghost use Rattle.index.specs.View.{SumsFrom};
 ghost use Rattle.planning.specs.Places.{placeView, siteFrom, Begins};
 ghost use Rattle.planning.specs.Planned.{Planned, Admitted};
 ghost use Rattle.placing.specs.Site.{newOf, siteView};
@@ -38,7 +41,7 @@ enum RunPlace {
 
 // Slot 1 of an index that is n slots larger, if it may grow so in an image of `len` bytes.
 fn grown_place(len: u64, g: Geometry, n: u64) -> RunPlace
-    requires { ⌜ GoodGeometry len (geometryView g) × (n ≤ 5) ⌝ }
+    requires { ⌜ GoodGeometry len (geometryView g) × (n ≤ 6) ⌝ }
     ensures { λ r. ⌜ placeView r ≡ grownPlace len (growIndex (geometryView g) (slotBytes * n)) ⌝ }
 {
     let grown = g.grow_index(units::SLOT_BYTES * n);
@@ -48,12 +51,12 @@ fn grown_place(len: u64, g: Geometry, n: u64) -> RunPlace
     RunPlace::At(Slot::at(1), grown)
 }
 
-// The lowest n unused slots, else the index grows by them.
-fn place_run(img: &[u8], g: Geometry, from: Cursor, n: u64) -> RunPlace
-    requires { ⌜ Opened (now img) g × Begins (now img) g from × (1 ≤ n) × (n ≤ 5) ⌝ }
-    ensures { λ r. ⌜ placeView r ≡ placeRun (length (now (img .entry))) (volumeOf (now (img .entry)) (geometryView g)) n ⌝ }
+// The lowest n unused slots of those that an entry of the path may have, else the index grows by them.
+fn place_run(img: &[u8], sums: &[u8], g: Geometry, from: Cursor, path: &[u8], n: u64) -> RunPlace
+    requires { ⌜ Opened (now img) g × Begins (now img) g from × (1 ≤ n) × (n ≤ 6) × SumsFrom (now img) (now sums) from ⌝ }
+    ensures { λ r. ⌜ placeView r ≡ placeRun (length (now (img .entry))) (volumeOf (now (img .entry)) (geometryView g)) (now (path .entry)) n ⌝ }
 {
-    match index::lowest_unused(img, from, n) {
+    match index::lowest_unused(img, sums, places::places_for(img, sums, from, path), n) {
         Unused::At(slot) => RunPlace::At(slot, g),
         Unused::Nothing => grown_place(img.len() as u64, g, n),
     }
@@ -83,14 +86,14 @@ pub enum Plan {
 }
 
 // The slots of the run.
-fn slots_for(file: bool, path: &[u8]) -> u64
-    ensures { λ r. ⌜ ((bytes : List ℕ) → r ≡ newSlots (newOf file bytes) (now (path .entry))) ⌝ }
+fn slots_for(ed: Edition, file: bool, path: &[u8]) -> u64
+    ensures { λ r. ⌜ ((bytes : List ℕ) → r ≡ newSlots (editionView ed) (newOf file bytes) (now (path .entry))) ⌝ }
 {
     let n = path.len() as u64;
     if file {
-        return slots::run_slots(slots::FILE, n);
+        return slots::run_slots(ed, slots::FILE, n);
     }
-    slots::run_slots(slots::DIRECTORY, n)
+    slots::run_slots(ed, slots::DIRECTORY, n)
 }
 
 // The blocks that the bytes need; a directory needs none.
@@ -133,6 +136,7 @@ fn site_at(
 // 15 and 16: the places for the run and for the blocks.
 fn plan_places(
     img: &[u8],
+    sums: &[u8],
     g: Geometry,
     from: Cursor,
     keys: &[u64],
@@ -142,11 +146,11 @@ fn plan_places(
     bytes: &[u8],
     stamp: u64,
 ) -> Plan
-    requires { ⌜ Opened (now img) g × Begins (now img) g from × Admitted (now img) g (now path) × KeysOf (now img) g (drop i (now keys)) ⌝ }
+    requires { ⌜ Opened (now img) g × Begins (now img) g from × Admitted (now img) g (now path) × KeysOf (now img) g (drop i (now keys)) × SumsFrom (now img) (now sums) from ⌝ }
     ensures { λ r. ⌜ Planned (now (img .entry)) (newOf file (now (bytes .entry))) (now (path .entry)) (signedOf stamp) r ⌝ }
 {
-    let slots = slots_for(file, path);
-    match place_run(img, g, from, slots) {
+    let slots = slots_for(g.edition, file, path);
+    match place_run(img, sums, g, from, path, slots) {
         RunPlace::Nothing => Plan::Refused(15),
         RunPlace::At(slot, grown) => {
             let blocks = blocks_for(g, file, bytes);
@@ -178,14 +182,15 @@ fn plan_opened(
     if !names::new_path_good(path) {
         return Plan::Refused(10);
     }
-    let from = super_block::first_slot(img, g);
-    if paths::is_found(paths::lookup(img, from, path)) {
+    let mut sums = [0u8; sums::ROOM];
+    let from = super_block::first_slot(img, g, &mut sums);
+    if paths::is_found(paths::lookup(img, &sums, from, path)) {
         return Plan::Refused(12);
     }
-    if !path_rules::nearest_live(img, from, path) {
+    if !path_rules::nearest_live(img, &sums, from, path) {
         return Plan::Refused(13);
     }
-    plan_places(img, g, from, keys, i, file, path, bytes, stamp)
+    plan_places(img, &sums, g, from, keys, i, file, path, bytes, stamp)
 }
 
 // 6 to 8, and then the rest. The lent scratch keeps the keys of the regions.

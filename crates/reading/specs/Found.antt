@@ -1,4 +1,4 @@
--- Read and list of an entry that was found: the last steps of the calls, and where a file's bytes lie.
+-- Find, read and list of an entry that was found: the last steps of the calls, how its end is given, and where a file's bytes lie.
 use Prim.Native.Nat.{ℕ, _+_, _*_, _≤_, _<_}
 use mathlib.Core.Path.{_≡_, ap, _∙_}
 use mathlib.Core.Bool.{true, _&&_}
@@ -8,6 +8,8 @@ use lib.ListN.{length}
 use lib.Dec.{eqb, leb}
 use borrow.Author.Tests.{le-leb, lt-leb, eq-eqb, ne-eqb}
 use Rattle.rules.specs.Fields.{splice}
+use Rattle.rules.specs.Editions.{Edition, storedEnd}
+use Rattle.rules.specs.Editions.Laws.{stored-past}
 use Rattle.rules.specs.SuperBlock.{Geometry, blockLength}
 use Rattle.rules.specs.Names.{pathGood}
 use Rattle.rules.specs.Lists.Laws.{and-true}
@@ -24,10 +26,16 @@ use Rattle.laws.proofs.Lists.Every.{all-first, first-says}
 use Rattle.laws.proofs.Entries.Regions.{sound-says, file-region, kind-file}
 use Rattle.laws.proofs.Images.Areas.{file-inside}
 use Rattle.judging.specs.View.{Opened, volumeOf}
+use Rattle.editions.specs.View.{editionView}
 use Rattle.geometry.specs.View.{geometryView}
 use Rattle.geometry.specs.declared.Geometry.{Geometry as Held}
 use Rattle.slots.specs.declared.Head.{Head}
 use Rattle.slots.specs.View.{headView}
+
+-- an entry's end is given as it is stored
+pub end-given : (s : List ℕ) (h : Head) → storedEnd (editionView (h .edition)) (headView s h .end) ≡ h .end .0
+unfolding headView
+end-given s h = stored-past (editionView (h .edition)) (h .end .0)
 
 -- ---- read, from the entry on
 unfoldable pub readEntry : List ℕ → Geometry → Entry → List ℕ → Outcome ℕ
@@ -79,22 +87,23 @@ module _ (s : List ℕ) (g : Held) (opened : Opened s g) (path : List ℕ) where
       volume-judged 0 s out _ (volumeOf s (geometryView g)) opened ∙ ap (conclude 0 s out) (need-true 10 _ p ∙ found-some 11 _ f)
 
 -- ---- list, from the entry on
-unfoldable pub listEntry : List ℕ → Entry → List ℕ → Outcome ListedNumbers
-listEntry s e out = conclude noneListed s out (listed s out (some e))
+unfoldable pub listEntry : Edition → List ℕ → Entry → List ℕ → Outcome ListedNumbers
+listEntry ed s e out = conclude noneListed s out (listed ed s out (some e))
 
-module _ (s : List ℕ) (e : Entry) (out : List ℕ) where
-  pub path-short : length out < length (e .path) → listEntry s e out ≡ denied noneListed s out 18
+module _ (ed : Edition) (s : List ℕ) (e : Entry) (out : List ℕ) where
+  pub path-short : length out < length (e .path) → listEntry ed s e out ≡ denied noneListed s out 18
   unfolding listEntry listed
   path-short h = conclude-refused noneListed s out 18 (need-false 18 _ (lt-leb (length (e .path)) (length out) h))
 
   pub path-done : length (e .path) ≤ length out
-      → listEntry s e out ≡ done (record { found = numbersOf e; pathLength = length (e .path) }) s (splice out 0 (e .path))
+      → listEntry ed s e out ≡ done (record { found = numbersOf ed e; pathLength = length (e .path) }) s (splice out 0 (e .path))
   unfolding listEntry listed
   path-done h = conclude-accepted noneListed s out _ (need-true 18 _ (le-leb (length (e .path)) (length out) h))
 
-pub list-found : (s : List ℕ) (v : Volume) → judge s ≡ accepted v → (slot : ℕ) (e : Entry) (out : List ℕ) → nextLive slot (entries v) ≡ some e → listOf s slot out ≡ listEntry s e out
+pub list-found : (s : List ℕ) (v : Volume) → judge s ≡ accepted v → (slot : ℕ) (e : Entry) (out : List ℕ) → nextLive slot (entries v) ≡ some e
+    → (ed : Edition) → ed ≡ v .geometry .edition → listOf s slot out ≡ listEntry ed s e out
 unfolding listOf listEntry
-list-found s v opens slot e out f = volume-judged noneListed s out _ v opens ∙ ap (λ x. conclude noneListed s out (listed s out x)) f
+list-found s v opens slot e out f ed of = rw of (volume-judged noneListed s out _ v opens ∙ ap (λ x. conclude noneListed s out (listed (v .geometry .edition) s out x)) f)
 
 -- what is live has a run
 pub next-run : (slot : ℕ) (es : List Entry) (e : Entry) → nextLive slot es ≡ some e → runType (e .kind) ≡ true

@@ -23,9 +23,10 @@ ghost use Rattle.rules.specs.Outcome.Laws.{denied};
 ghost use Rattle.rules.specs.Reading.{volumeNumbers};
 ghost use Rattle.rules.specs.Index.{volumeName, runType};
 ghost use Rattle.contracts.specs.Contracts.{OpensVolume, Finds, Lists, Reads, volumeView, volumeAnswer, entryView, entryAnswer, contentView, listedView, listedAnswer};
+ghost use Rattle.editions.specs.View.{editionView};
 ghost use Rattle.geometry.specs.View.{geometryView};
 ghost use Rattle.slots.specs.View.{headView, HeadIn};
-ghost use Rattle.paths.specs.View.{Searched};
+ghost use Rattle.paths.specs.View.{Searched, FoundOf};
 ghost use Rattle.judging.specs.View.{Opened, volumeOf};
 ghost use Rattle.reading.specs.Found.{FileIn, readEntry, listEntry};
 
@@ -37,6 +38,7 @@ fn no_volume(n: u32) -> Volume
     Volume {
         refusal: n,
         version: 0,
+        edition: 0,
         total: 0,
         reserved: 0,
         block_length: 0,
@@ -53,9 +55,11 @@ fn volume_numbers(img: &[u8], g: Geometry, n: usize) -> Volume
     requires { ⌜ (64 ≤ length (now img)) × (g .field ≤ 5) × (n ≡ length (volumeName (now img))) ⌝ }
     ensures { λ r. ⌜ (r .refusal ≡ 0) × (volumeAnswer r ≡ volumeNumbers (now (img .entry)) (geometryView g)) ⌝ }
 {
+    let ed = g.edition;
     Volume {
         refusal: 0,
         version: g.version as u32,
+        edition: ed.version() as u32,
         total: g.total,
         reserved: g.reserved as u64,
         block_length: g.block_length(),
@@ -96,15 +100,18 @@ fn search(img: &[u8], g: Geometry, path: &[u8]) -> Found
     requires { ⌜ Opened (now img) g ⌝ }
     ensures { λ r. ⌜ Searched (now (img .entry)) (lookup (now (path .entry)) (entries (volumeOf (now (img .entry)) (geometryView g)))) (r .entry) ⌝ }
     ensures counted { λ r. ⌜ r .looked ≡ findLooked (now (img .entry)) (volumeOf (now (img .entry)) (geometryView g)) (now (path .entry)) ⌝ }
+    ensures edition { λ r. ⌜ FoundOf (g .edition) (r .entry) ⌝ }
 {
-    let from = super_block::first_slot(img, g);
-    paths::find(img, from, path)
+    let mut sums = [0u8; sums::ROOM];
+    let from = super_block::first_slot(img, g, &mut sums);
+    paths::find(img, &sums, from, path)
 }
 
 // The live entry of the path.
 fn look_up(img: &[u8], g: Geometry, path: &[u8]) -> Search
     requires { ⌜ Opened (now img) g ⌝ }
     ensures { λ r. ⌜ Searched (now (img .entry)) (lookup (now (path .entry)) (entries (volumeOf (now (img .entry)) (geometryView g)))) r ⌝ }
+    ensures edition { λ r. ⌜ FoundOf (g .edition) r ⌝ }
 {
     search(img, g, path).entry
 }
@@ -123,8 +130,9 @@ fn no_entry(n: u32) -> Entry
     }
 }
 
+// The numbers of an entry that was found, its end as it is stored.
 fn entry_numbers(h: Head) -> Entry
-    ensures { λ r. ⌜ (r .refusal ≡ 0) × ((s : List ℕ) → entryAnswer r ≡ numbersOf (headView s h)) ⌝ }
+    ensures { λ r. ⌜ (r .refusal ≡ 0) × ((s : List ℕ) → entryAnswer r ≡ numbersOf (editionView (h .edition)) (headView s h)) ⌝ }
 {
     Entry {
         refusal: 0,
@@ -230,7 +238,7 @@ fn none_listed(n: u32) -> Listed
 }
 
 fn listed_numbers(h: Head, n: usize) -> Listed
-    ensures { λ r. ⌜ (r .refusal ≡ 0) × ((s : List ℕ) → listedAnswer r ≡ record { found = numbersOf (headView s h); pathLength = n }) ⌝ }
+    ensures { λ r. ⌜ (r .refusal ≡ 0) × ((s : List ℕ) → listedAnswer r ≡ record { found = numbersOf (editionView (h .edition)) (headView s h); pathLength = n }) ⌝ }
 {
     let e = entry_numbers(h);
     Listed {
@@ -248,7 +256,7 @@ fn listed_numbers(h: Head, n: usize) -> Listed
 // The entry's numbers, and its path at the start of out.
 fn list_entry(img: &[u8], h: Head, out: &mut [u8]) -> Listed
     requires { ⌜ HeadIn (now img) h × (runType (h .kind) ≡ true) ⌝ }
-    ensures { λ r. ⌜ listedView (now (img .entry)) (now (out .exit)) r ≡ listEntry (now (img .entry)) (headView (now (img .entry)) h) (now (out .entry)) ⌝ }
+    ensures { λ r. ⌜ listedView (now (img .entry)) (now (out .exit)) r ≡ listEntry (editionView (h .edition)) (now (img .entry)) (headView (now (img .entry)) h) (now (out .entry)) ⌝ }
 {
     let path = slots::path_of(img, h);
     let n = path.len();
@@ -263,8 +271,9 @@ fn list_from(img: &[u8], g: Geometry, slot: Slot, out: &mut [u8]) -> Listed
     requires { ⌜ Opened (now img) g ⌝ }
     ensures { λ r. ⌜ Lists (now (img .entry)) (slot .0) (now (out .entry)) r (now (out .exit)) ⌝ }
 {
-    let from = super_block::first_slot(img, g);
-    match paths::next_live(img, from, slot) {
+    let mut sums = [0u8; sums::ROOM];
+    let from = super_block::first_slot(img, g, &mut sums);
+    match paths::next_live(img, &sums, from, slot) {
         Search::Nothing => none_listed(0),
         Search::Entry(h) => list_entry(img, h, out),
     }

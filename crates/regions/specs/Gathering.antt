@@ -10,6 +10,7 @@ use lib.Seq.{drop-length}
 use borrow.Author.Tests.{eqb-true, ltb-true, ltb-false}
 use Rattle.rules.specs.Lists.{pick, all, only, keepIf, everyTwo, All, Pairs, Perm, same, thus}
 use Rattle.rules.specs.Lists.Laws.{clash, and-true, pick-true, pick-false, or-other}
+use Rattle.rules.specs.Editions.{Edition, pastEnd}
 use Rattle.rules.specs.SuperBlock.{dataEnd}
 use Rattle.rules.specs.Index.{Entry, fileType, typeUnusable}
 use Rattle.rules.specs.Index.Walk.{walkAll}
@@ -22,6 +23,7 @@ use Rattle.ordering.specs.Paths.{pathLe}
 use Rattle.ordering.specs.Starts.{here-and-behind}
 use Rattle.ordering.specs.Turning.{turned-perm}
 use Rattle.ordering.specs.Regions.{regionKey, hasRegion, keyStart, keyEnd, inTurn, Small, all-filled, in-turn-ascends, in-turn-apart, in-turn-decides}
+use Rattle.editions.specs.View.{editionView}
 use Rattle.slots.specs.declared.Head.{Head}
 use Rattle.slots.specs.View.{headView}
 use Rattle.geometry.specs.declared.Geometry.{Geometry}
@@ -78,17 +80,17 @@ module _ (g : Geometry) (bounded : Bounded g) where
           empty-small e (eqb-true _ _ (q .0)) (eqb-true _ _ (q .1))
       by false f = within-small e (and-true (withinData (geometryView g) e) _ (or-other _ _ h f) .0)
 
-  good-run : (left k : ℕ) (a : List ℕ) (e : Entry) → IsRun left k a e → regionGood (geometryView g) e ≡ true → Small e
+  good-run : (ed : Edition) (left k : ℕ) (a : List ℕ) (e : Entry) → IsRun ed left k a e → regionGood (geometryView g) e ≡ true → Small e
   unfolding regionGood
-  good-run left k a e r h = by (fileType (e .kind)) refl
+  good-run ed left k a e r h = by (fileType (e .kind)) refl
     where
       by : (t : Bool) → fileType (e .kind) ≡ t → Small e
       by true f = file-small e (sym (pick-true _ _ f) ∙ h)
-      by false f = let b = run-bare left k a e r f in empty-small e (b .0) (b .1)
+      by false f = let b = run-bare ed left k a e r f in empty-small e (b .0) (b .1)
 
-  good-unusable : (k : ℕ) (a : List ℕ) (e : Entry) → IsUnusable k a e → regionGood (geometryView g) e ≡ true → Small e
+  good-unusable : (ed : Edition) (k : ℕ) (a : List ℕ) (e : Entry) → IsUnusable ed k a e → regionGood (geometryView g) e ≡ true → Small e
   unfolding regionGood fileType pick
-  good-unusable k a e u h = within-small e (by (e .kind) (unusable-kind k a e u) h)
+  good-unusable ed k a e u h = within-small e (by (e .kind) (unusable-kind ed k a e u) h)
     where
       by : (t : ℕ) → t ≡ typeUnusable → pick (fileType t) (fileRegionGood (geometryView g) e) (pick (eqb t typeUnusable) (withinData (geometryView g) e) true) ≡ true → withinData (geometryView g) e ≡ true
       by t f p = rw f at p
@@ -96,9 +98,9 @@ module _ (g : Geometry) (bounded : Bounded g) where
   -- of every entry that a cursor has before it
   good-small : (s : List ℕ) (c : Cursor) → All (λ e. regionGood (geometryView g) e ≡ true → Small e) (entriesFrom s c)
   unfolding walkAll
-  good-small s c = of-walk (λ e. regionGood (geometryView g) e ≡ true → Small e) good-run good-unusable _ _ _ _
+  good-small s c = let ed : Edition = editionView (c .edition) in of-walk ed (λ e. regionGood (geometryView g) e ≡ true → Small e) (good-run ed) (good-unusable ed) _ _ _ _
 
-small-end : (e : Entry) → Small e → e .end ≤ 65_536
+pub small-end : (e : Entry) → Small e → e .end ≤ 65_536
 unfolding hasRegion
 small-end e h = by (ltb (e .start) (e .end)) refl
   where
@@ -106,7 +108,7 @@ small-end e h = by (ltb (e .start) (e .end)) refl
     by true f = h .below (ltb-true _ _ f)
     by false f = omega (arith, h .none f .1)
 
-pub found-small : (s : List ℕ) (g : Geometry) → Bounded g → (c : Cursor) (h : Head) (d : Cursor) → Step s c h d → regionGood (geometryView g) (headView s h) ≡ true → h .end .0 ≤ 65_536
+pub found-small : (s : List ℕ) (g : Geometry) → Bounded g → (c : Cursor) (h : Head) (d : Cursor) → Step s c h d → regionGood (geometryView g) (headView s h) ≡ true → pastEnd (editionView (h .edition)) (h .end .0) ≤ 65_536
 unfolding headView
 found-small s g b c h d step ok = small-end (headView s h) ((rw (step .entries) at (good-small g b s c)) .0 ok)
 
@@ -178,23 +180,23 @@ pub record Ordered (before after : List ℕ) (r : Bool) : Type 0 where
   pub turns : r ≡ inTurn 0 after
   pub ascends : r ≡ false → Pairs (λ a b. a / 65_536 ≤ b / 65_536) after
 
-number-le : (s : List ℕ) (at a b : ℕ) → keyLe s at a b ≡ true → a / 65_536 ≤ b / 65_536
+number-le : (ed : Edition) (s : List ℕ) (at a b : ℕ) → keyLe ed s at a b ≡ true → a / 65_536 ≤ b / 65_536
 unfolding keyLe numberOf
-number-le s at a b h = by (eqb (a / 65_536) (b / 65_536)) refl
+number-le ed s at a b h = by (eqb (a / 65_536) (b / 65_536)) refl
   where
     by : (t : Bool) → eqb (a / 65_536) (b / 65_536) ≡ t → a / 65_536 ≤ b / 65_536
     by true e = omega (arith, eqb-true (a / 65_536) (b / 65_536) e)
-    by false e = omega (arith, ltb-true (a / 65_536) (b / 65_536) (sym (pick-false (pathLe (keyRest s at a) (keyRest s at b)) _ e) ∙ h))
+    by false e = omega (arith, ltb-true (a / 65_536) (b / 65_536) (sym (pick-false (pathLe (keyRest ed s at a) (keyRest ed s at b)) _ e) ∙ h))
 
 module _ (keys : List ℕ) where
   pub in-turn : true ≡ inTurn 0 keys → Ordered keys keys true
   in-turn e = record { same = same; turns = e; ascends = λ f. clash f }
 
-  pub sorted-turns : (s : List ℕ) (at : ℕ) (after : List ℕ) (r : Bool) → Sorted (keyLe s at) keys after → r ≡ inTurn 0 after → Ordered keys after r
-  sorted-turns s at after r sorted e = record {
+  pub sorted-turns : (ed : Edition) (s : List ℕ) (at : ℕ) (after : List ℕ) (r : Bool) → Sorted (keyLe ed s at) keys after → r ≡ inTurn 0 after → Ordered keys after r
+  sorted-turns ed s at after r sorted e = record {
     same = sorted .same;
     turns = e;
-    ascends = λ f. pairs-weaken _ _ (number-le s at) after (sorted .ascends);
+    ascends = λ f. pairs-weaken _ _ (number-le ed s at) after (sorted .ascends);
   }
 
 -- ---- THE JUDGEMENT: the regions of entries, by their keys in order
@@ -253,3 +255,8 @@ module _ (s : List ℕ) (g : Geometry) (bounded : Bounded g) (c : Cursor) (good 
           ascends = in-turn-ascends (drop i kept) (all-filled (entriesFrom s c) (drop i kept) all-small p) (sym (o .turns) ∙ f);
         },
       )
+
+-- sound regions are small
+pub sound-small : (s : List ℕ) (g : Geometry) → Bounded g → (c : Cursor) → regionsSound (geometryView g) (entriesFrom s c) ≡ true → All Small (entriesFrom s c)
+unfolding regionsSound
+sound-small s g b c h = all-small s g b c (and-true (all (regionGood (geometryView g)) (entriesFrom s c)) _ h .0)

@@ -1,5 +1,6 @@
 // Regions: whether each is good, and whether no two share a block.
 
+use editions::Edition;
 use geometry::Geometry;
 use index::Cursor;
 use index::Next;
@@ -15,9 +16,12 @@ ghost use lib.ListN.{length, drop};
 ghost use lib.Dec.{eqb};
 ghost use Prim.Native.Nat.{ℕ, _+_, _≤_, _<_};
 ghost use Rattle.rules.specs.Lists.{all, everyTwo, keepIf};
+ghost use Rattle.rules.specs.Editions.{pastEnd};
 ghost use Rattle.rules.specs.Regions.{withinData, fileRegionGood, regionGood, apart, regionsSound};
+ghost use Rattle.editions.specs.View.{editionView};
 ghost use Rattle.geometry.specs.View.{geometryView};
 ghost use Rattle.slots.specs.View.{headView};
+ghost use Rattle.index.specs.View.{SumsFrom};
 ghost use Rattle.index.specs.Steps.{Walks, entriesFrom};
 ghost use Rattle.ordering.specs.Regions.{regionKey, hasRegion, keyStart, keyEnd, inTurn};
 ghost use Rattle.regions.specs.Bounds.{Bounded};
@@ -31,13 +35,13 @@ fn within_data(g: Geometry, h: Head) -> bool
     if !g.data_start().is_at_or_before(h.start) {
         return false;
     }
-    if !h.start.is_before(h.end) {
+    if slots::ends_by(h, h.start) {
         return false;
     }
-    h.end.is_at_or_before(g.data_end())
+    slots::ends_by(h, g.data_end())
 }
 
-// An empty file has no region.
+// An empty file has no region: an end is 0 exactly if it is stored as 0.
 fn is_empty(h: Head) -> bool
     ensures { λ r. ⌜ r ≡ (eqb (h .start .0) 0 && eqb (h .end .0) 0 && eqb (h .length) 0) ⌝ }
 {
@@ -61,7 +65,7 @@ fn file_region_good(g: Geometry, h: Head) -> bool
     if !within_data(g, h) {
         return false;
     }
-    let blocks = h.start.blocks_to(h.end);
+    let blocks = h.start.blocks_to(slots::past_end(h));
     h.length <= blocks * g.block_length()
 }
 
@@ -83,10 +87,10 @@ fn region_good(g: Geometry, h: Head) -> bool
 fn regions_apart(a: Head, b: Head) -> bool
     ensures { λ r. ⌜ ((s : List ℕ) → r ≡ apart (headView s a) (headView s b)) ⌝ }
 {
-    if a.end.is_at_or_before(b.start) {
+    if slots::ends_by(a, b.start) {
         return true;
     }
-    b.end.is_at_or_before(a.start)
+    slots::ends_by(b, a.start)
 }
 
 // ---- regions in order
@@ -102,19 +106,19 @@ enum Gathered {
 
 // The start and the end of a region as one number, with no place below it.
 fn key_of(h: Head) -> u64
-    requires { ⌜ h .end .0 ≤ 65_536 × (h .start .0 < h .end .0) ⌝ }
+    requires { ⌜ (pastEnd (editionView (h .edition)) (h .end .0) ≤ 65_536) × (h .start .0 < pastEnd (editionView (h .edition)) (h .end .0)) ⌝ }
     ensures { λ r. ⌜ ((s : List ℕ) → r ≡ regionKey (headView s h)) ⌝ }
 {
-    (h.start.number() * ENDS + h.end.number()) * PLACES
+    (h.start.number() * ENDS + slots::past_end(h).number()) * PLACES
 }
 
 // The region of an entry, if it has one, put before place i.
 fn put_region(keys: &mut [u64], i: usize, h: Head) -> usize
-    requires { ⌜ (0 < i) × (i ≤ length (now keys)) × (h .end .0 ≤ 65_536) ⌝ }
+    requires { ⌜ (0 < i) × (i ≤ length (now keys)) × (pastEnd (editionView (h .edition)) (h .end .0) ≤ 65_536) ⌝ }
     ensures { λ r. ⌜ ((s : List ℕ) → drop r (now (keys .exit)) ≡ keepIf (hasRegion (headView s h)) (regionKey (headView s h)) (drop i (now (keys .entry)))) ⌝ }
     ensures place { λ r. ⌜ (r ≤ i) × (i ≤ r + 1) ⌝ }
 {
-    if !h.start.is_before(h.end) {
+    if slots::ends_by(h, h.start) {
         return i;
     }
     let key = key_of(h);
@@ -122,14 +126,14 @@ fn put_region(keys: &mut [u64], i: usize, h: Head) -> usize
 }
 
 // The regions of all entries from the cursor on, the last one first: those of an index that creates made are in order then.
-fn gather(img: &[u8], g: Geometry, from: Cursor, keys: &mut [u64]) -> Gathered
-    requires { ⌜ Bounded g × Walks (now img) from × (from .left ≤ length (now keys)) ⌝ }
+fn gather(img: &[u8], sums: &[u8], g: Geometry, from: Cursor, keys: &mut [u64]) -> Gathered
+    requires { ⌜ Bounded g × Walks (now img) from × (from .left ≤ length (now keys)) × SumsFrom (now img) (now sums) from ⌝ }
     ensures { λ r. ⌜ Gathers (now (img .entry)) g from (now (keys .exit)) r ⌝ }
 {
     let mut c = from;
     let mut i = keys.len();
     loop {
-        match index::next_entry(img, c) {
+        match index::next_entry(img, sums, c) {
             Next::End => return Gathered::From(i),
             Next::Found(e, rest) => {
                 if !region_good(g, e) {
@@ -173,14 +177,14 @@ fn in_turn(keys: &[u64], from: usize) -> bool
 }
 
 // The regions from place i on put in order by their starts, if they do not stand in turn already; tmp is scratch. Whether they share no block.
-fn order(img: &[u8], at: Offset, keys: &mut [u64], i: usize, tmp: &mut [u64]) -> bool
+fn order(img: &[u8], ed: Edition, at: Offset, keys: &mut [u64], i: usize, tmp: &mut [u64]) -> bool
     requires { ⌜ (i ≤ length (now keys)) × (length (now keys) ≤ length (now tmp)) × (at .0 ≤ 16_777_216) ⌝ }
     ensures { λ r. ⌜ Ordered (drop i (now (keys .entry))) (drop i (now (keys .exit))) r ⌝ }
 {
     if in_turn(keys, i) {
         return true;
     }
-    sorting::sort_from(img, at, keys, i, tmp);
+    sorting::sort_from(img, ed, at, keys, i, tmp);
     in_turn(keys, i)
 }
 
@@ -193,18 +197,19 @@ pub enum Regions {
 // The regions of the entries from the cursor on, judged, their keys left in `keys`; tmp is scratch.
 pub fn judge_regions(
     img: &[u8],
+    sums: &[u8],
     g: Geometry,
     from: Cursor,
     keys: &mut [u64],
     tmp: &mut [u64],
 ) -> Regions
-    requires { ⌜ Bounded g × Walks (now img) from × (from .left ≤ length (now keys)) × (length (now keys) ≤ length (now tmp)) ⌝ }
+    requires { ⌜ Bounded g × Walks (now img) from × (from .left ≤ length (now keys)) × (length (now keys) ≤ length (now tmp)) × SumsFrom (now img) (now sums) from ⌝ }
     ensures { λ r. ⌜ JudgesRegions (now (img .entry)) g from (now (keys .exit)) r ⌝ }
 {
-    match gather(img, g, from, keys) {
+    match gather(img, sums, g, from, keys) {
         Gathered::Bad => Regions::Unsound,
         Gathered::From(i) => {
-            if !order(img, from.at, keys, i, tmp) {
+            if !order(img, from.edition, from.at, keys, i, tmp) {
                 return Regions::Unsound;
             }
             Regions::From(i)
@@ -215,13 +220,13 @@ pub fn judge_regions(
 // ---- the plain engine: each region against every later one
 
 // Whether every region from the cursor on is good.
-fn all_good(img: &[u8], g: Geometry, from: Cursor) -> bool
-    requires { ⌜ Bounded g × Walks (now img) from ⌝ }
+fn all_good(img: &[u8], sums: &[u8], g: Geometry, from: Cursor) -> bool
+    requires { ⌜ Bounded g × Walks (now img) from × SumsFrom (now img) (now sums) from ⌝ }
     ensures { λ r. ⌜ r ≡ all (regionGood (geometryView g)) (entriesFrom (now (img .entry)) from) ⌝ }
 {
     let mut c = from;
     loop {
-        match index::next_entry(img, c) {
+        match index::next_entry(img, sums, c) {
             Next::End => return true,
             Next::Found(e, rest) => {
                 if !region_good(g, e) {
@@ -234,13 +239,13 @@ fn all_good(img: &[u8], g: Geometry, from: Cursor) -> bool
 }
 
 // Whether a region shares no block with any from the cursor on.
-fn apart_from_rest(img: &[u8], h: Head, from: Cursor) -> bool
-    requires { ⌜ Walks (now img) from ⌝ }
+fn apart_from_rest(img: &[u8], sums: &[u8], h: Head, from: Cursor) -> bool
+    requires { ⌜ Walks (now img) from × SumsFrom (now img) (now sums) from ⌝ }
     ensures { λ r. ⌜ r ≡ all (apart (headView (now (img .entry)) h)) (entriesFrom (now (img .entry)) from) ⌝ }
 {
     let mut c = from;
     loop {
-        match index::next_entry(img, c) {
+        match index::next_entry(img, sums, c) {
             Next::End => return true,
             Next::Found(e, rest) => {
                 if !regions_apart(h, e) {
@@ -253,16 +258,16 @@ fn apart_from_rest(img: &[u8], h: Head, from: Cursor) -> bool
 }
 
 // Whether no two regions from the cursor on share a block.
-fn all_apart(img: &[u8], from: Cursor) -> bool
-    requires { ⌜ Walks (now img) from ⌝ }
+fn all_apart(img: &[u8], sums: &[u8], from: Cursor) -> bool
+    requires { ⌜ Walks (now img) from × SumsFrom (now img) (now sums) from ⌝ }
     ensures { λ r. ⌜ r ≡ everyTwo apart (entriesFrom (now (img .entry)) from) ⌝ }
 {
     let mut c = from;
     loop {
-        match index::next_entry(img, c) {
+        match index::next_entry(img, sums, c) {
             Next::End => return true,
             Next::Found(e, rest) => {
-                if !apart_from_rest(img, e, rest) {
+                if !apart_from_rest(img, sums, e, rest) {
                     return false;
                 }
                 c = rest;
@@ -272,12 +277,12 @@ fn all_apart(img: &[u8], from: Cursor) -> bool
 }
 
 // Whether the regions of the entries from the cursor on are sound, without scratch.
-pub fn plainly_sound(img: &[u8], g: Geometry, from: Cursor) -> bool
-    requires { ⌜ Bounded g × Walks (now img) from ⌝ }
+pub fn plainly_sound(img: &[u8], sums: &[u8], g: Geometry, from: Cursor) -> bool
+    requires { ⌜ Bounded g × Walks (now img) from × SumsFrom (now img) (now sums) from ⌝ }
     ensures { λ r. ⌜ r ≡ regionsSound (geometryView g) (entriesFrom (now (img .entry)) from) ⌝ }
 {
-    if !all_good(img, g, from) {
+    if !all_good(img, sums, g, from) {
         return false;
     }
-    all_apart(img, from)
+    all_apart(img, sums, from)
 }

@@ -27,7 +27,8 @@ use Rattle.paths.specs.declared.Search.{Search}
 use Rattle.paths.specs.View.{Searched, HitAt, isFound, hit-first}
 use Rattle.judging.specs.View.{Opened, volumeOf, opened-walks, opened-entries}
 use Rattle.judging.specs.Searches.{found-is, nearest-is}
-use Rattle.retyping.specs.Planned.{RetypePlanned}
+use Rattle.editions.specs.View.{editionView}
+use Rattle.retyping.specs.Planned.{tidyOf, RetypePlanned}
 use Rattle.retyping.specs.declared.Retyping.the-variants.{Refused}
 
 pub record Met (s path : List ℕ) (g : Held) (from : Cursor) (h : Head) (rest : Cursor) : Type 0 where
@@ -79,7 +80,7 @@ module _ (s path : List ℕ) (g : Held) (from : Cursor) (h : Head) (rest : Curso
             restore-several s v (m .opened) (m .may) path z (m .named) (headView s h) met-first (live-is ∙ l) (near-is ∙ d) (alone ∙ ap not n)
 
         pub met-alone : any (deletedAt path) (entriesFrom s rest) ≡ false → (z : ℤ)
-            → restoreOf s path z ≡ wrote (retyped s (slotAt s (geometryView g) (h .slot .0)) (liveKind (h .kind)) z)
+            → restoreOf s path z ≡ wrote (retyped (editionView (g .edition)) (tidyOf s g) (slotAt (tidyOf s g) (geometryView g) (h .slot .0)) (liveKind (h .kind)) z)
         unfolding restored headView
         met-alone n z =
             restore-done s v (m .opened) (m .may) path z (m .named) (headView s h) met-first (live-is ∙ l) (near-is ∙ d) (alone ∙ ap not n)

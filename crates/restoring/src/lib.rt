@@ -11,20 +11,29 @@ ghost use Rattle.rules.specs.Writing.{restoreOf};
 ghost use Rattle.contracts.specs.Contracts.{Restores};
 ghost use Rattle.judging.specs.View.{Opened};
 ghost use Rattle.retyping.specs.Planned.{RetypePlanned};
+ghost use Rattle.index.specs.View.{SumsFrom};
 ghost use Rattle.restoring.specs.Met.{Met};
 
 // 12, 13 and 19: the path is not live, its directory is, and no deleted entry behind the first has the path.
-fn plan_first(img: &[u8], g: Geometry, from: Cursor, path: &[u8], h: Head, rest: Cursor) -> Retyping
-    requires { ⌜ Met (now img) (now path) g from h rest ⌝ }
+fn plan_first(
+    img: &[u8],
+    sums: &[u8],
+    g: Geometry,
+    from: Cursor,
+    path: &[u8],
+    h: Head,
+    rest: Cursor,
+) -> Retyping
+    requires { ⌜ Met (now img) (now path) g from h rest × SumsFrom (now img) (now sums) from × SumsFrom (now img) (now sums) rest ⌝ }
     ensures { λ r. ⌜ RetypePlanned (now (img .entry)) (restoreOf (now (img .entry)) (now (path .entry))) r ⌝ }
 {
-    if paths::is_found(paths::lookup(img, from, path)) {
+    if paths::is_found(paths::lookup(img, sums, from, path)) {
         return Retyping::Refused(12);
     }
-    if !path_rules::nearest_live(img, from, path) {
+    if !path_rules::nearest_live(img, sums, from, path) {
         return Retyping::Refused(13);
     }
-    if paths::any_deleted(img, rest, path) {
+    if paths::any_deleted(img, sums, rest, path) {
         return Retyping::Refused(19);
     }
     retyping::at_slot(img, g, h.slot, slots::live_kind(h.kind))
@@ -41,10 +50,11 @@ fn plan_entry(img: &[u8], g: Geometry, path: &[u8]) -> Retyping
     if !names::path_good(path) {
         return Retyping::Refused(10);
     }
-    let from = super_block::first_slot(img, g);
-    match paths::first_deleted(img, from, path) {
+    let mut sums = [0u8; sums::ROOM];
+    let from = super_block::first_slot(img, g, &mut sums);
+    match paths::first_deleted(img, &sums, from, path) {
         Hit::Nothing => Retyping::Refused(11),
-        Hit::Entry(h, rest) => plan_first(img, g, from, path, h, rest),
+        Hit::Entry(h, rest) => plan_first(img, &sums, g, from, path, h, rest),
     }
 }
 

@@ -46,7 +46,7 @@ LookedFew = (name path : List ℕ) → lastAlike name path ≡ true → looked n
 -- ---- a search
 -- the name of an entry's run, by all its bytes
 unfoldable pub nameIn : List ℕ → Geometry → Entry → List ℕ
-nameIn s g e = nameField (drop (slotAt s g (e .slot)) s)
+nameIn s g e = nameField (g .edition) (drop (slotAt s g (e .slot)) s)
 
 -- the elements that a search meets: up to and with the first that passes
 unfoldable pub met : {A : Type 0} → (A → Bool) → List A → List A

@@ -1,4 +1,5 @@
--- 01, "The history", with restore as K2 adds it: what it holds, how each call feeds it, and the statements of demand 3 and of the claim about two images.
+-- 01, "The history", with restore as K2 adds it, the edition and delete as K4 has them: what it holds, how each call feeds it, and the statements
+-- of demand 3 and of the claim about two images.
 use Prim.Native.Nat.{ℕ, _+_, _-_, _*_, _≤_}
 use mathlib.Core.Path.{_≡_}
 use mathlib.Core.Bool.{Bool, true, false, _&&_, _||_, not}
@@ -6,9 +7,10 @@ use mathlib.Core.List.{List, [], _∷_, map}
 use lib.ListN.{length, drop}
 use lib.Dec.{eqb}
 use lib.IntN.{ℤ}
-use Rattle.rules.specs.Lists.{only, sum, eqList, part, Perm, All, Pairs}
+use Rattle.rules.specs.Lists.{pick, only, sum, eqList, part, Perm, All, Pairs}
 use Rattle.rules.specs.Fields.{splice}
-use Rattle.rules.specs.SuperBlock.{blockLength, superBlockAt}
+use Rattle.rules.specs.Editions.{Edition, edition10, editionNamed, superBlockAt, keepsDeleted}
+use Rattle.rules.specs.SuperBlock.{blockLength}
 use Rattle.rules.specs.Index.{Entry, fileType, typeFile}
 use Rattle.rules.specs.Regions.{holds, blocksOf, blocksNeeded, heldBlocks}
 use Rattle.rules.specs.Paths.{isLive}
@@ -20,7 +22,7 @@ pub mod Laws
 
 -- ---- the calls, with any arguments and lent outputs
 pub data Call : Type 0 where
-  format : ℕ → ℕ → List ℕ → ℤ → Call  -- bytes per block, reserved blocks, volume name, stamp
+  format : ℕ → ℕ → ℕ → List ℕ → ℤ → Call  -- version, bytes per block, reserved blocks, volume name, stamp
   openVolume : List ℕ → Call
   find : List ℕ → Call
   list : ℕ → List ℕ → Call
@@ -39,7 +41,7 @@ unfoldable pub passed : {A : Type 0} → Outcome A → Passed
 passed o = record { answered = eqb (o .refusal) 0; image = o .image }
 
 unfoldable pub step : List ℕ → Call → Passed
-step s (format bytesPerBlock reserved name stamp) = passed (formatOf s bytesPerBlock reserved name stamp)
+step s (format version bytesPerBlock reserved name stamp) = passed (formatOf s version bytesPerBlock reserved name stamp)
 step s (openVolume out) = passed (openOf s out)
 step s (find path) = passed (findOf s path)
 step s (list slot out) = passed (listOf s slot out)
@@ -58,6 +60,7 @@ pub record Kept : Type 0 where
   pub live : Bool
 
 pub record History : Type 0 where
+  pub edition : Edition
   pub blockBytes : ℕ  -- 01's B
   pub kept : List Kept
   pub granted : ℕ
@@ -65,7 +68,7 @@ pub record History : Type 0 where
 
 -- before the first accepted format
 unfoldable pub nothing : History
-nothing = record { blockBytes = 0; kept = []; granted = 0; givenBack = 0 }
+nothing = record { edition = edition10; blockBytes = 0; kept = []; granted = 0; givenBack = 0 }
 
 unfoldable pub keptOf : ℕ → New → List ℕ → Kept
 keptOf blockLen new path = record {
@@ -75,6 +78,10 @@ keptOf blockLen new path = record {
   blocks = blocksNeeded blockLen (length (bytesOf new));
   live = true;
 }
+
+-- it has the path and is live
+unfoldable pub keptAt : List ℕ → Kept → Bool
+keptAt p k = k .live && eqList (k .path) p
 
 -- all as it was, but whether it is live
 abbrev pub withLive : Kept → Bool → Kept
@@ -88,21 +95,36 @@ marked p k = withLive k (k .live && not (eqList (k .path) p))
 unfoldable pub revived : List ℕ → Kept → Kept
 revived p k = withLive k (k .live || eqList (k .path) p)
 
+-- the entry that a delete names is marked, or struck and its blocks given back
+unfoldable pub markedIn : History → List ℕ → History
+markedIn h path =
+    record { edition = h .edition; blockBytes = h .blockBytes; kept = map (marked path) (h .kept); granted = h .granted; givenBack = h .givenBack }
+
+unfoldable pub struckIn : History → List ℕ → History
+struckIn h path = record {
+  edition = h .edition;
+  blockBytes = h .blockBytes;
+  kept = only (λ k. not (keptAt path k)) (h .kept);
+  granted = h .granted;
+  givenBack = h .givenBack + sum (λ k. k .blocks) (only (keptAt path) (h .kept));
+}
+
 -- how an accepted call feeds it; a refused one changes nothing
 unfoldable pub fed : History → Call → History
-fed h (format bytesPerBlock reserved name stamp) = record { blockBytes = bytesPerBlock; kept = []; granted = 0; givenBack = 0 }
+fed h (format version bytesPerBlock reserved name stamp) =
+    record { edition = editionNamed version; blockBytes = bytesPerBlock; kept = []; granted = 0; givenBack = 0 }
 fed h (openVolume out) = h
 fed h (find path) = h
 fed h (list slot out) = h
 fed h (read path out) = h
 fed h (create new path stamp) =
     let k : Kept = keptOf (h .blockBytes) new path in
-    record { blockBytes = h .blockBytes; kept = k ∷ h .kept; granted = h .granted + k .blocks; givenBack = h .givenBack }
-fed h (delete path stamp) =
-    record { blockBytes = h .blockBytes; kept = map (marked path) (h .kept); granted = h .granted; givenBack = h .givenBack }
+    record { edition = h .edition; blockBytes = h .blockBytes; kept = k ∷ h .kept; granted = h .granted + k .blocks; givenBack = h .givenBack }
+fed h (delete path stamp) = pick (keepsDeleted (h .edition)) (markedIn h path) (struckIn h path)
 fed h (restore path stamp) =
-    record { blockBytes = h .blockBytes; kept = map (revived path) (h .kept); granted = h .granted; givenBack = h .givenBack }
+    record { edition = h .edition; blockBytes = h .blockBytes; kept = map (revived path) (h .kept); granted = h .granted; givenBack = h .givenBack }
 fed h (reclaim stamp) = record {
+  edition = h .edition;
   blockBytes = h .blockBytes;
   kept = only (λ k. k .live) (h .kept);
   granted = h .granted;
@@ -159,12 +181,12 @@ pub record Holds (s : List ℕ) (h : History) : Type 0 where
 -- DEMAND 3: one statement over every list of calls, from any accepted format
 abbrev pub Demand3 : Type 0
 Demand3 =
-    (s : List ℕ) (bytesPerBlock reserved : ℕ) (name : List ℕ) (stamp : ℤ)
-    → formatOf s bytesPerBlock reserved name stamp .refusal ≡ 0
+    (s : List ℕ) (version bytesPerBlock reserved : ℕ) (name : List ℕ) (stamp : ℤ)
+    → formatOf s version bytesPerBlock reserved name stamp .refusal ≡ 0
     → (cs : List Call)
     → Holds
-    (run (formatOf s bytesPerBlock reserved name stamp .image) cs)
-    (told (formatOf s bytesPerBlock reserved name stamp .image) (fed nothing (format bytesPerBlock reserved name stamp)) cs)
+    (run (formatOf s version bytesPerBlock reserved name stamp .image) cs)
+    (told (formatOf s version bytesPerBlock reserved name stamp .image) (fed nothing (format version bytesPerBlock reserved name stamp)) cs)
 
 -- ---- the claim about two images
 -- both open, and they agree in the super-block's fields, the index area and the blocks of live files
@@ -173,7 +195,7 @@ pub record Agree (s t : List ℕ) : Type 0 where
   pub opens : judge s ≡ accepted volume
   pub otherVolume : Volume
   pub otherOpens : judge t ≡ accepted otherVolume
-  pub superBlock : part s superBlockAt 42 ≡ part t superBlockAt 42
+  pub superBlock : part s (superBlockAt (volume .geometry .edition)) 42 ≡ part t (superBlockAt (volume .geometry .edition)) 42
   pub index : drop (length s - volume .geometry .indexBytes) s ≡ drop (length t - volume .geometry .indexBytes) t
   pub files :
       All

@@ -1,7 +1,8 @@
--- The rules, in the order of document 01's sections; what K3 counts comes last. Each module states its rules; its `Laws` are what proofs go by.
+-- The rules, in the order of document 01's sections, with what K4's editions differ in before them; what K3 counts comes last. Each module states its rules; its `Laws` are what proofs go by.
 pub mod Lists
 pub mod Text
 pub mod Fields
+pub mod Editions
 pub mod SuperBlock
 pub mod Utf8
 pub mod Names

@@ -2,6 +2,7 @@
 use Prim.Native.Nat.{ℕ}
 use mathlib.Core.List.{List}
 use lib.IntN.{ℤ, pos}
+use Rattle.rules.specs.Editions.{Edition, storedEnd}
 use Rattle.rules.specs.Index.{Entry}
 use Rattle.rules.specs.Refusals.{Verdict, refused, accepted, Volume, judge, andThen}
 pub mod Laws
@@ -27,6 +28,7 @@ onVolume zeros s out call = conclude zeros s out (andThen (judge s) call)
 
 -- ---- the numbers of open's answer
 pub record VolumeNumbers : Type 0 where
+  pub edition : ℕ  -- 0x10 or 0x1A, whatever version is stored; 0 after a refusal
   pub version : ℕ
   pub total : ℕ
   pub reserved : ℕ
@@ -39,6 +41,7 @@ pub record VolumeNumbers : Type 0 where
 
 unfoldable pub noVolume : VolumeNumbers
 noVolume = record {
+  edition = 0;
   version = 0;
   total = 0;
   reserved = 0;
@@ -62,8 +65,9 @@ pub record EntryNumbers : Type 0 where
 unfoldable pub noEntry : EntryNumbers
 noEntry = record { slot = 0; kind = 0; start = 0; end = 0; length = 0; stamp = pos 0 }
 
-unfoldable pub numbersOf : Entry → EntryNumbers
-numbersOf e = record { slot = e .slot; kind = e .kind; start = e .start; end = e .end; length = e .length; stamp = e .stamp }
+-- the end is given as the edition stores it
+unfoldable pub numbersOf : Edition → Entry → EntryNumbers
+numbersOf ed e = record { slot = e .slot; kind = e .kind; start = e .start; end = storedEnd ed (e .end); length = e .length; stamp = e .stamp }
 
 pub record ListedNumbers : Type 0 where
   pub found : EntryNumbers

@@ -6,6 +6,7 @@ use lib.ListN.{length}
 use lib.Dec.{eqb, leb}
 use Rattle.rules.specs.Lists.{part}
 use Rattle.rules.specs.Fields.{splice}
+use Rattle.rules.specs.Editions.{Edition, versionOf}
 use Rattle.rules.specs.SuperBlock.{Geometry, blockLength}
 use Rattle.rules.specs.Names.{pathGood}
 use Rattle.rules.specs.Index.{Entry, volumeName, volumeStamp, typeFile}
@@ -17,6 +18,7 @@ pub mod Laws
 -- ---- open: the volume's numbers, and its name at the start of the output
 unfoldable pub volumeNumbers : List ℕ → Geometry → VolumeNumbers
 volumeNumbers s g = record {
+  edition = versionOf (g .edition);
   version = g .version;
   total = g .total;
   reserved = g .reserved;
@@ -40,7 +42,7 @@ findOf s path =
     onVolume noEntry s [] (λ v.
     need (pathGood path) 10
     (needFound (lookup path (entries v)) 11 (λ e.
-    accepted (done (numbersOf e) s []))))
+    accepted (done (numbersOf (v .geometry .edition) e) s []))))
 
 -- ---- read: a file's length, and its bytes at the start of the output
 unfoldable pub fileBytes : List ℕ → Geometry → Entry → List ℕ
@@ -56,11 +58,11 @@ readOf s path out =
     (accepted (done (e .length) s (splice out 0 (fileBytes s (v .geometry) e))))))))
 
 -- ---- list: the next live entry from a slot on, its path at the start of the output; with none left, zeros
-unfoldable pub listed : List ℕ → List ℕ → Option Entry → Verdict (Outcome ListedNumbers)
-listed s out none = accepted (done noneListed s out)
-listed s out (some e) =
+unfoldable pub listed : Edition → List ℕ → List ℕ → Option Entry → Verdict (Outcome ListedNumbers)
+listed ed s out none = accepted (done noneListed s out)
+listed ed s out (some e) =
     need (leb (length (e .path)) (length out)) 18
-    (accepted (done (record { found = numbersOf e; pathLength = length (e .path) }) s (splice out 0 (e .path))))
+    (accepted (done (record { found = numbersOf ed e; pathLength = length (e .path) }) s (splice out 0 (e .path))))
 
 unfoldable pub listOf : List ℕ → ℕ → List ℕ → Outcome ListedNumbers
-listOf s slot out = onVolume noneListed s out (λ v. listed s out (nextLive slot (entries v)))
+listOf s slot out = onVolume noneListed s out (λ v. listed (v .geometry .edition) s out (nextLive slot (entries v)))

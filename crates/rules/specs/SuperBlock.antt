@@ -7,50 +7,45 @@ use lib.Dec.{eqb, leb}
 use lib.IntN.{ℤ}
 use Rattle.rules.specs.Lists.{pick}
 use Rattle.rules.specs.Fields.{byteAt, le, leBytes, splice, stampIn, stampBytes, checksumOf}
+use Rattle.rules.specs.Editions.{Edition, superBlockAt, versionWritten}
 pub mod Laws
 
 -- an image has 512 to 16,777,216 bytes
 unfoldable pub lengthGood : ℕ → Bool
 lengthGood n = leb 512 n && leb n 16_777_216
 
--- the places of the fields. An edition moves them together: only this number changes.
-abbrev pub superBlockAt : ℕ
-superBlockAt = 0x194
+-- the places of the fields, of edition 1.0 and of 1.10
+abbrev pub dataAt : Edition → ℕ
+dataAt ed = superBlockAt ed + 8  -- 0x19C, 0x196
 
-abbrev pub dataAt : ℕ
-dataAt = superBlockAt + 0x08  -- 0x19C
+abbrev pub indexAt : Edition → ℕ
+indexAt ed = superBlockAt ed + 16  -- 0x1A4, 0x19E
 
-abbrev pub indexAt : ℕ
-indexAt = superBlockAt + 0x10  -- 0x1A4
+abbrev pub magicAt : Edition → ℕ
+magicAt ed = superBlockAt ed + 24  -- 0x1AC, 0x1A6
 
-abbrev pub magicAt : ℕ
-magicAt = superBlockAt + 0x18  -- 0x1AC
+abbrev pub versionAt : Edition → ℕ
+versionAt ed = magicAt ed + 3  -- 0x1AF, 0x1A9
 
-abbrev pub versionAt : ℕ
-versionAt = superBlockAt + 0x1B  -- 0x1AF
+abbrev pub totalAt : Edition → ℕ
+totalAt ed = magicAt ed + 4  -- 0x1B0, 0x1AA
 
-abbrev pub totalAt : ℕ
-totalAt = superBlockAt + 0x1C  -- 0x1B0
+abbrev pub reservedAt : Edition → ℕ
+reservedAt ed = magicAt ed + 12  -- 0x1B8, 0x1B2
 
-abbrev pub reservedAt : ℕ
-reservedAt = superBlockAt + 0x24  -- 0x1B8
+abbrev pub blockFieldAt : Edition → ℕ
+blockFieldAt ed = magicAt ed + 16  -- 0x1BC, 0x1B6
 
-abbrev pub blockFieldAt : ℕ
-blockFieldAt = superBlockAt + 0x28  -- 0x1BC
-
--- the bytes 0x1AC to 0x1BD are summed; the last of them is the checksum
+-- the bytes from the magic on are summed, to 0x1BD or 0x1B7; the last of them is the checksum
 abbrev pub sealedLength : ℕ
 sealedLength = 18
 
 abbrev pub magic : List ℕ
 magic = 0x53 ∷ 0x46 ∷ 0x53 ∷ []
 
--- the version that is written, and the least that is read
-abbrev pub version10 : ℕ
-version10 = 0x10
-
 -- what all calls share
 pub record Geometry : Type 0 where
+  pub edition : Edition
   pub stamp : ℤ  -- when a size last changed
   pub dataBlocks : ℕ  -- data area, in blocks
   pub indexBytes : ℕ  -- index area, in bytes
@@ -59,19 +54,20 @@ pub record Geometry : Type 0 where
   pub reserved : ℕ  -- blocks, the super-block's own among them
   pub blockField : ℕ  -- 01's b
 
--- a volume of a version up to 0x10 may be written, a later one only read
+-- a 1.0 volume of a version above 0x10 may only be read
 unfoldable pub writable : Geometry → Bool
-writable g = leb (g .version) version10
+writable g = versionWritten (g .edition) (g .version)
 
-unfoldable pub geometryOf : List ℕ → Geometry
-geometryOf s = record {
-  stamp = stampIn s superBlockAt;
-  dataBlocks = le 8 s dataAt;
-  indexBytes = le 8 s indexAt;
-  version = byteAt s versionAt;
-  total = le 8 s totalAt;
-  reserved = le 4 s reservedAt;
-  blockField = byteAt s blockFieldAt;
+unfoldable pub geometryOf : Edition → List ℕ → Geometry
+geometryOf ed s = record {
+  edition = ed;
+  stamp = stampIn s (superBlockAt ed);
+  dataBlocks = le 8 s (dataAt ed);
+  indexBytes = le 8 s (indexAt ed);
+  version = byteAt s (versionAt ed);
+  total = le 8 s (totalAt ed);
+  reserved = le 4 s (reservedAt ed);
+  blockField = byteAt s (blockFieldAt ed);
 }
 
 -- a block has 2 ^ (b + 7) bytes
@@ -120,6 +116,7 @@ fieldOf n =
 -- ---- a new geometry from an old one, all else in it equal
 unfoldable pub withIndex : Geometry → ℕ → Geometry
 withIndex g i = record {
+  edition = g .edition;
   stamp = g .stamp;
   dataBlocks = g .dataBlocks;
   indexBytes = i;
@@ -131,6 +128,7 @@ withIndex g i = record {
 
 unfoldable pub withData : Geometry → ℕ → Geometry
 withData g d = record {
+  edition = g .edition;
   stamp = g .stamp;
   dataBlocks = d;
   indexBytes = g .indexBytes;
@@ -142,6 +140,7 @@ withData g d = record {
 
 unfoldable pub withStamp : Geometry → ℤ → Geometry
 withStamp g t = record {
+  edition = g .edition;
   stamp = t;
   dataBlocks = g .dataBlocks;
   indexBytes = g .indexBytes;
@@ -169,18 +168,18 @@ restamp old new t =
     pick (eqb (old .indexBytes) (new .indexBytes) && eqb (old .dataBlocks) (new .dataBlocks)) new (withStamp new t)
 
 -- ---- as it is stored
--- stamp and sizes, 0x194 to 0x1AB
+-- stamp and sizes, up to the magic
 unfoldable pub sizesBytes : Geometry → List ℕ
 sizesBytes g = stampBytes (g .stamp) ++ (leBytes 8 (g .dataBlocks) ++ leBytes 8 (g .indexBytes))
 
--- magic to block size field, 0x1AC to 0x1BC
+-- magic to block size field
 unfoldable pub summedBytes : Geometry → List ℕ
 summedBytes g = magic ++ (g .version ∷ (leBytes 8 (g .total) ++ (leBytes 4 (g .reserved) ++ (g .blockField ∷ []))))
 
--- the whole super-block, 0x194 to 0x1BD
+-- the whole super-block, 42 bytes
 unfoldable pub superBlockBytes : Geometry → List ℕ
 superBlockBytes g = sizesBytes g ++ (summedBytes g ++ (checksumOf (summedBytes g) ∷ []))
 
 -- an image with these sizes and this stamp
 unfoldable pub putSizes : List ℕ → Geometry → List ℕ
-putSizes s g = splice s superBlockAt (sizesBytes g)
+putSizes s g = splice s (superBlockAt (g .edition)) (sizesBytes g)

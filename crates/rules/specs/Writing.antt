@@ -1,6 +1,6 @@
 -- 01, "The calls": format, create, delete, restore (which K2 adds) and reclaim. They give no number but the refusal.
 use Prim.Native.Nat.{ℕ, zero, suc, _+_, _-_, _*_, _/_}
-use mathlib.Core.Bool.{Bool, true, false, _&&_, not}
+use mathlib.Core.Bool.{Bool, true, _&&_, not}
 use mathlib.Core.List.{List, [], _∷_, _++_}
 use mathlib.Core.Option.{Option, none, some}
 use lib.ListN.{length}
@@ -8,9 +8,10 @@ use lib.Dec.{eqb, leb}
 use lib.IntN.{ℤ}
 use Rattle.rules.specs.Lists.{pick, only, first, firstIf, padded, largest}
 use Rattle.rules.specs.Fields.{splice}
-use Rattle.rules.specs.SuperBlock.{Geometry, blockBytes, blockLength, ceilingBlock, dataEnd, mostIndexBytes, fieldOf, geometryGood, lengthGood, growIndex, extendData, trimData, restamp, superBlockBytes, superBlockAt, putSizes, version10, writable}
-use Rattle.rules.specs.Names.{pathGood, newPathGood, volumeNameGood, leading}
-use Rattle.rules.specs.Index.{Entry, Item, unused, entry, fault, fileType, typeFile, typeDirectory, typeDeletedFile, typeDeletedDirectory, slotBytes, slotAt, markerBytes, identifierBytes, unusedBytes, continuing, runBytes, retyped}
+use Rattle.rules.specs.Editions.{Edition, versionOf, versionNamed, editionNamed, superBlockAt, keepsDeleted, beforeDirectories}
+use Rattle.rules.specs.SuperBlock.{Geometry, blockBytes, blockLength, ceilingBlock, dataEnd, mostIndexBytes, fieldOf, geometryGood, lengthGood, growIndex, extendData, trimData, restamp, superBlockBytes, putSizes, writable}
+use Rattle.rules.specs.Names.{pathGood, newPathGood, volumeNameGood, leading, isBelow}
+use Rattle.rules.specs.Index.{Entry, Item, unused, stale, entry, fault, fileType, typeFile, typeDirectory, typeDeletedFile, typeDeletedDirectory, slotBytes, slotAt, markerBytes, identifierBytes, unusedBytes, continuing, runBytes, retyped}
 use Rattle.rules.specs.Regions.{lowestFree, blocksNeeded}
 use Rattle.rules.specs.Paths.{isDeleted, deletedAt, lookup, directoryLive, anyBelow}
 use Rattle.rules.specs.Lists.{isSome}
@@ -21,35 +22,50 @@ pub mod Laws
 abbrev pub Written : Type 0
 Written = Outcome (Unit {0})
 
-abbrev pub onWritable : List ℕ → (Volume → Verdict Written) → Written
-onWritable s call = onVolume tt s [] (λ v. need (writable (v .geometry)) 9 (call v))
+-- what is left over becomes unused slots
+unfoldable pub tidied : List ℕ → Geometry → List Item → List ℕ
+tidied s g [] = s
+tidied s g (unused k ∷ is) = tidied s g is
+tidied s g (stale k n ∷ is) = tidied (splice s (slotAt s g k) (unusedBytes (g .edition) n)) g is
+tidied s g (entry e ∷ is) = tidied s g is
+tidied s g (fault k ∷ is) = tidied s g is
+
+-- 9, and then the call on the image that is tidied first: a refusal leaves the image as it was
+abbrev pub onWritable : List ℕ → (List ℕ → Volume → Verdict Written) → Written
+onWritable s call = onVolume tt s [] (λ v. need (writable (v .geometry)) 9 (call (tidied s (v .geometry) (v .items)) v))
 
 -- ---- format
 -- the geometry that results; b follows from the bytes per block
-unfoldable pub freshGeometry : ℕ → ℕ → ℕ → ℤ → Geometry
-freshGeometry n b reserved stamp = record {
+unfoldable pub freshGeometry : Edition → ℕ → ℕ → ℕ → ℤ → Geometry
+freshGeometry ed n b reserved stamp = record {
+  edition = ed;
   stamp = stamp;
   dataBlocks = 0;
   indexBytes = 128;
-  version = version10;
+  version = versionOf ed;
   total = n / blockBytes b;
   reserved = reserved;
   blockField = b;
 }
 
--- 0x194 to 0x1BD and the last 128 bytes: marker and identifier
+-- the super-block and the last 128 bytes: marker and identifier
 unfoldable pub formatted : List ℕ → Geometry → List ℕ → List ℕ
 formatted s g name =
-    splice (splice s superBlockAt (superBlockBytes g)) (length s - 128) (markerBytes ++ identifierBytes (g .stamp) name)
+    splice
+    (splice s (superBlockAt (g .edition)) (superBlockBytes g))
+    (length s - 128)
+    (markerBytes (g .edition) ++ identifierBytes (g .edition) (g .stamp) name)
 
-unfoldable pub formatOf : List ℕ → ℕ → ℕ → List ℕ → ℤ → Written
-formatOf s bytesPerBlock reserved name stamp =
+unfoldable pub formatOf : List ℕ → ℕ → ℕ → ℕ → List ℕ → ℤ → Written
+formatOf s version bytesPerBlock reserved name stamp =
     conclude tt s []
     (need (lengthGood (length s)) 1
+    (need (versionNamed version) 5
     (needFound (fieldOf bytesPerBlock) 5 (λ b.
-    need (geometryGood (length s) (freshGeometry (length s) b reserved stamp)) 5
+    let g : Geometry = freshGeometry (editionNamed version) (length s) b reserved stamp in
+    need (geometryGood (length s) g) 5
     (need (volumeNameGood name) 10
-    (accepted (done tt (formatted s (freshGeometry (length s) b reserved stamp) name) []))))))
+    (accepted (done tt (formatted s g name) [])))))))
 
 -- ---- create
 pub data New : Type 0 where
@@ -70,16 +86,21 @@ nearestLive es [] = true
 nearestLive es (p ∷ []) = directoryLive es p
 nearestLive es (p ∷ q ∷ ps) = nearestLive es (q ∷ ps)
 
--- the first n items are unused slots
+-- how many unused slots stand first
+unfoldable pub unusedFirst : List Item → ℕ
+unusedFirst [] = 0
+unusedFirst (unused k ∷ is) = 1 + unusedFirst is
+unusedFirst (stale k n ∷ is) = n + unusedFirst is
+unusedFirst (entry e ∷ is) = 0
+unusedFirst (fault k ∷ is) = 0
+
+-- the first n slots are unused
 unfoldable pub startsUnused : ℕ → List Item → Bool
-startsUnused zero is = true
-startsUnused (suc n) [] = false
-startsUnused (suc n) (unused k ∷ is) = startsUnused n is
-startsUnused (suc n) (entry e ∷ is) = false
-startsUnused (suc n) (fault k ∷ is) = false
+startsUnused n is = leb n (unusedFirst is)
 
 unfoldable pub itemSlot : Item → ℕ
 itemSlot (unused k) = k
+itemSlot (stale k n) = k
 itemSlot (entry e) = e .slot
 itemSlot (fault k) = k
 
@@ -89,8 +110,8 @@ lowestUnused n [] = none
 lowestUnused n (i ∷ is) = firstIf (startsUnused n (i ∷ is)) (itemSlot i) (lowestUnused n is)
 
 -- the slots of the run, and the blocks of the bytes
-abbrev pub newSlots : New → List ℕ → ℕ
-newSlots new path = 1 + continuing (kindOf new) (length path)
+abbrev pub newSlots : Edition → New → List ℕ → ℕ
+newSlots ed new path = 1 + continuing ed (kindOf new) (length path)
 
 abbrev pub newBlocks : Geometry → New → ℕ
 newBlocks g new = blocksNeeded (blockLength g) (length (bytesOf new))
@@ -108,13 +129,29 @@ mayGrow n grown = leb (grown .indexBytes) mostIndexBytes && leb (dataEnd grown) 
 unfoldable pub grownPlace : ℕ → Geometry → Option Place
 grownPlace n grown = pick (mayGrow n grown) (some (record { slot = 1; geometry = grown })) none
 
--- the index keeps its size where it has unused slots for the run, else it grows
+-- the index keeps its size where a slot was found for the run, else it grows
 unfoldable pub placeFrom : ℕ → Geometry → ℕ → Option ℕ → Option Place
 placeFrom n kept slots (some k) = some (record { slot = k; geometry = kept })
 placeFrom n kept slots none = grownPlace n (growIndex kept (slotBytes * slots))
 
-unfoldable pub placeRun : ℕ → Volume → ℕ → Option Place
-placeRun n v slots = placeFrom n (v .geometry) slots (lowestUnused slots (v .items))
+-- a directory that the path lies below
+unfoldable pub isAbove : List ℕ → Entry → Bool
+isAbove path e = eqb (e .kind) typeDirectory && isBelow (e .path) path
+
+-- what stands before the first entry that passes
+unfoldable pub itemsBefore : (Entry → Bool) → List Item → List Item
+itemsBefore p [] = []
+itemsBefore p (unused k ∷ is) = unused k ∷ itemsBefore p is
+itemsBefore p (stale k n ∷ is) = stale k n ∷ itemsBefore p is
+itemsBefore p (entry e ∷ is) = pick (p e) [] (entry e ∷ itemsBefore p is)
+itemsBefore p (fault k ∷ is) = fault k ∷ itemsBefore p is
+
+-- where a new entry of the path may go
+unfoldable pub placesFor : Edition → List ℕ → List Item → List Item
+placesFor ed path is = pick (beforeDirectories ed) (itemsBefore (isAbove path) is) is
+
+unfoldable pub placeRun : ℕ → Volume → List ℕ → ℕ → Option Place
+placeRun n v path slots = placeFrom n (v .geometry) slots (lowestUnused slots (placesFor (v .geometry .edition) path (v .items)))
 
 -- the start of a file's k blocks: 0 where it needs none, else the lowest free run below the ceiling block after any growth
 unfoldable pub placeFile : ℕ → Geometry → List Entry → ℕ → Option ℕ
@@ -138,7 +175,7 @@ siteOf v new path stamp run start =
       old = v .geometry;
       new = restamp (v .geometry) (extendData (run .geometry) end) stamp;
       slot = run .slot;
-      slots = newSlots new path;
+      slots = newSlots (v .geometry .edition) new path;
       start = start;
       end = end;
     }
@@ -158,58 +195,59 @@ newEntry site new path stamp = record {
 
 -- the start marker moves with the index's start
 unfoldable pub putMarker : List ℕ → Geometry → Geometry → List ℕ
-putMarker s old new = pick (eqb (old .indexBytes) (new .indexBytes)) s (splice s (slotAt s new 0) markerBytes)
+putMarker s old new = pick (eqb (old .indexBytes) (new .indexBytes)) s (splice s (slotAt s new 0) (markerBytes (new .edition)))
 
 -- sizes, marker, run, and the blocks: the bytes, and zeros to the end of the last block
 unfoldable pub created : List ℕ → Site → New → List ℕ → ℤ → List ℕ
 created s site new path stamp =
     let marked : List ℕ = putMarker (putSizes s (site .new)) (site .old) (site .new) in
-    let indexed : List ℕ = splice marked (slotAt s (site .new) (site .slot)) (runBytes (newEntry site new path stamp)) in
+    let indexed : List ℕ = splice marked (slotAt s (site .new) (site .slot)) (runBytes (site .new .edition) (newEntry site new path stamp)) in
     splice indexed (site .start * blockLength (site .new)) (padded (bytesOf new) ((site .end - site .start) * blockLength (site .new)))
 
 unfoldable pub createOf : List ℕ → New → List ℕ → ℤ → Written
 createOf s new path stamp =
-    onWritable s (λ v.
+    onWritable s (λ t v.
     need (newPathGood path) 10
     (need (not (isSome (lookup path (entries v)))) 12
     (need (nearestLive (entries v) (leading path)) 13
-    (needFound (placeRun (length s) v (newSlots new path)) 15 (λ run.
+    (needFound (placeRun (length s) v path (newSlots (v .geometry .edition) new path)) 15 (λ run.
     needFound (placeFile (length s) (run .geometry) (entries v) (newBlocks (v .geometry) new)) 16 (λ start.
-    accepted (done tt (created s (siteOf v new path stamp run start) new path stamp) [])))))))
+    accepted (done tt (created t (siteOf v new path stamp run start) new path stamp) [])))))))
 
--- ---- delete: the type and the stamp of its entry
+-- ---- delete: the type and the stamp of its entry, or unused slots where deleted entries are not kept
 unfoldable pub deletedKind : ℕ → ℕ
 deletedKind t = pick (fileType t) typeDeletedFile typeDeletedDirectory
 
-unfoldable pub deleted : List ℕ → ℕ → Entry → ℤ → List ℕ
-deleted s at e stamp = retyped s at (deletedKind (e .kind)) stamp
+unfoldable pub deleted : Edition → List ℕ → ℕ → Entry → ℤ → List ℕ
+deleted ed s at e stamp = pick (keepsDeleted ed) (retyped ed s at (deletedKind (e .kind)) stamp) (splice s at (unusedBytes ed (e .slots)))
 
 unfoldable pub deleteOf : List ℕ → List ℕ → ℤ → Written
 deleteOf s path stamp =
-    onWritable s (λ v.
+    onWritable s (λ t v.
     need (pathGood path) 10
     (needFound (lookup path (entries v)) 11 (λ e.
     need (not (anyBelow path (entries v))) 14
-    (accepted (done tt (deleted s (slotAt s (v .geometry) (e .slot)) e stamp) [])))))
+    (accepted (done tt (deleted (v .geometry .edition) t (slotAt t (v .geometry) (e .slot)) e stamp) [])))))
 
 -- ---- restore, request K2: the type and the stamp of the path's one deleted entry
 -- a deleted file is a file again, a deleted directory a directory
 unfoldable pub liveKind : ℕ → ℕ
 liveKind t = pick (fileType t) typeFile typeDirectory
 
-unfoldable pub restored : List ℕ → ℕ → Entry → ℤ → List ℕ
-restored s at e stamp = retyped s at (liveKind (e .kind)) stamp
+-- only where deleted entries are kept, since no sum is made good here
+unfoldable pub restored : Edition → List ℕ → ℕ → Entry → ℤ → List ℕ
+restored ed s at e stamp = retyped ed s at (liveKind (e .kind)) stamp
 
 -- 11 where no deleted entry has the path, also where it is live; 19 where two or more have it
 unfoldable pub restoreOf : List ℕ → List ℕ → ℤ → Written
 restoreOf s path stamp =
-    onWritable s (λ v.
+    onWritable s (λ t v.
     need (pathGood path) 10
     (needFound (first (deletedAt path) (entries v)) 11 (λ e.
     need (not (isSome (lookup path (entries v)))) 12
     (need (nearestLive (entries v) (leading path)) 13
     (need (leb (length (only (deletedAt path) (entries v))) 1) 19
-    (accepted (done tt (restored s (slotAt s (v .geometry) (e .slot)) e stamp) [])))))))
+    (accepted (done tt (restored (v .geometry .edition) t (slotAt t (v .geometry) (e .slot)) e stamp) [])))))))
 
 -- ---- reclaim: deleted runs become unused slots, the data area its least size
 -- the entries that are left
@@ -219,7 +257,7 @@ undeleted es = only (λ e. not (isDeleted e)) es
 -- the runs of the entries that pass become unused slots
 unfoldable pub cleared : (Entry → Bool) → List ℕ → Geometry → List Entry → List ℕ
 cleared p s g [] = s
-cleared p s g (e ∷ es) = cleared p (pick (p e) (splice s (slotAt s g (e .slot)) (unusedBytes (e .slots))) s) g es
+cleared p s g (e ∷ es) = cleared p (pick (p e) (splice s (slotAt s g (e .slot)) (unusedBytes (g .edition) (e .slots))) s) g es
 
 -- the least end of a data area that covers the regions of these entries
 unfoldable pub leastEnd : List Entry → ℕ
@@ -227,6 +265,6 @@ leastEnd es = largest (λ e. e .end) es
 
 unfoldable pub reclaimOf : List ℕ → ℤ → Written
 reclaimOf s stamp =
-    onWritable s (λ v.
+    onWritable s (λ t v.
     let g : Geometry = restamp (v .geometry) (trimData (v .geometry) (leastEnd (undeleted (entries v)))) stamp in
-    accepted (done tt (cleared isDeleted (putSizes s g) g (entries v)) []))
+    accepted (done tt (cleared isDeleted (putSizes t g) g (entries v)) []))

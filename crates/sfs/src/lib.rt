@@ -9,15 +9,17 @@ ghost use Rattle.contracts.specs.Contracts.{Formats, OpensVolume, Finds, Lists,
 #[no_mangle]
 pub extern "C" fn sfs_format(
     image: &mut [u8],
+    version: u64,
     bytes_per_block: u64,
     reserved: u64,
     name: &[u8],
     stamp: i64,
 ) -> u32
-    ensures { λ r. ⌜ Formats (now (image .entry)) «bytes_per_block» reserved (now (name .entry)) stamp r (now (image .exit)) ⌝ }
+    ensures { λ r. ⌜ Formats (now (image .entry)) version «bytes_per_block» reserved (now (name .entry)) stamp r (now (image .exit)) ⌝ }
 {
     formatting::format(
         image,
+        version,
         bytes_per_block,
         reserved,
         name,

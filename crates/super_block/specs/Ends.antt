@@ -10,6 +10,7 @@ use Rattle.rules.specs.SuperBlock.{Geometry}
 use Rattle.rules.specs.SuperBlock.Laws.{GoodGeometry}
 use Rattle.rules.specs.Index.{itemsOf, identifierGood, markerGood, indexSound}
 use Rattle.rules.specs.Index.Items.{faultless}
+use Rattle.editions.specs.View.{editionView}
 use Rattle.index.specs.View.{Inside, itemsFrom}
 use Rattle.index.specs.Steps.{Walks}
 use Rattle.index.specs.declared.Cursor.{Cursor}
@@ -17,18 +18,18 @@ use Rattle.laws.proofs.Index.Slots.{slot-at, items-walk, inner-slots}
 
 -- ---- the walk between the ends
 module _ (s : List ℕ) (g : Geometry) (c : Cursor) (items : itemsFrom s c ≡ itemsOf s g) where
-  pub sound-by : indexSound s g (itemsOf s g) ≡ ((markerGood s g && identifierGood s) && faultless (itemsFrom s c))
+  pub sound-by : indexSound s g (itemsOf s g) ≡ ((markerGood s g && identifierGood (g .edition) s) && faultless (itemsFrom s c))
   unfolding indexSound faultless
   sound-by = rw (← items)
 
   -- in a sound index the walk from slot 1 on meets no fault
   pub sound-walks : Inside s c → indexSound s g (itemsOf s g) ≡ true → Walks s c
-  sound-walks i e = record { inside = i; sound = and-true (markerGood s g && identifierGood s) (faultless (itemsFrom s c)) (sym sound-by ∙ e) .1 }
+  sound-walks i e = record { inside = i; sound = and-true (markerGood s g && identifierGood (g .edition) s) (faultless (itemsFrom s c)) (sym sound-by ∙ e) .1 }
 
 pub first-items : (s : List ℕ) (g : Geometry) (c : Cursor)
-    → c .at .0 ≡ length s - g .indexBytes + 64 → c .slot .0 ≡ 1 → c .left ≡ g .indexBytes / 64 - 2
+    → editionView (c .edition) ≡ g .edition → c .at .0 ≡ length s - g .indexBytes + 64 → c .slot .0 ≡ 1 → c .left ≡ g .indexBytes / 64 - 2
     → itemsFrom s c ≡ itemsOf s g
-first-items s g c at slot left = rw (at, slot, left) (sym (items-walk s g ∙ rw (slot-at s g 1, inner-slots g)))
+first-items s g c of at slot left = rw (of, at, slot, left) (sym (items-walk s g ∙ rw (slot-at s g 1, inner-slots g)))
 
 pub first-inside : (s : List ℕ) (g : Geometry) (c : Cursor)
     → GoodGeometry (length s) g → length s ≤ 16_777_216

@@ -3,18 +3,27 @@ use Prim.Native.Nat.{ℕ, _≤_}
 use mathlib.Core.Path.{_≡_, sym, ap, _∙_}
 use mathlib.Core.List.{List}
 use lib.ListN.{length}
+use mathlib.Core.Option.{Option, none, some}
+use Rattle.rules.specs.Editions.{Edition}
 use Rattle.rules.specs.SuperBlock.{Geometry}
 use Rattle.rules.specs.SuperBlock.Laws.{GoodGeometry}
 use Rattle.rules.specs.Refusals.{Verdict, refused, accepted, judgeGeometry}
 use Rattle.rules.specs.Refusals.Laws.{judge-super}
+use Rattle.editions.specs.View.{editionView}
 use Rattle.geometry.specs.View.{geometryView}
 use Rattle.geometry.specs.declared.Geometry.{Geometry as Held}
 use Rattle.super_block.specs.declared.SuperBlock.{SuperBlock}
 use Rattle.super_block.specs.declared.SuperBlock.the-variants.{Refused, Good}
+use Rattle.super_block.specs.declared.Magic.{Magic}
+use Rattle.super_block.specs.declared.Magic.the-variants.{Nothing, Of}
 
 abbrev pub superView : SuperBlock → Verdict Geometry
 superView (Refused n) = refused n
 superView (Good g) = accepted (geometryView g)
+
+abbrev pub magicView : Magic → Option Edition
+magicView Nothing = none
+magicView (Of ed) = some (editionView ed)
 
 -- what is known of an image whose super-block was found good, with the geometry g
 pub record Judged (s : List ℕ) (g : Held) : Type 0 where

@@ -7,7 +7,9 @@ use lib.ListN.{length, length-append}
 use Rattle.rules.specs.Lists.{part}
 use Rattle.rules.specs.Fields.{leBytes, splice, stampBytes, checksumOf}
 use Rattle.rules.specs.Fields.Laws.{length-leBytes, part-splice-in}
-use Rattle.rules.specs.SuperBlock.{Geometry, superBlockAt, dataAt, indexAt, magicAt, versionAt, totalAt, reservedAt, blockFieldAt, magic, sizesBytes, summedBytes, superBlockBytes, putSizes}
+use Rattle.rules.specs.Editions.{superBlockAt}
+use Rattle.rules.specs.Editions.Laws.{super-bounds}
+use Rattle.rules.specs.SuperBlock.{Geometry, dataAt, indexAt, magicAt, versionAt, totalAt, reservedAt, blockFieldAt, magic, sizesBytes, summedBytes, superBlockBytes, putSizes}
 use Rattle.rules.specs.SuperBlock.Laws.{length-sizes, length-summed, length-putSizes}
 use Rattle.fields.specs.Written.{byte-alone, join, length-stamp}
 
@@ -16,7 +18,7 @@ unfolding leBytes
 magic-number = refl
 
 module _ (s : List ℕ) (room : 0x1BE ≤ length s) (g : Geometry) where
-  pub sizes-put : (p q r : ℕ) → p ≡ superBlockAt → q ≡ dataAt → r ≡ indexAt → (s₁ s₂ s₃ : List ℕ)
+  pub sizes-put : (p q r : ℕ) → p ≡ (superBlockAt (g .edition)) → q ≡ (dataAt (g .edition)) → r ≡ (indexAt (g .edition)) → (s₁ s₂ s₃ : List ℕ)
       → s₁ ≡ splice s p (stampBytes (g .stamp))
       → s₂ ≡ splice s₁ q (leBytes 8 (g .dataBlocks))
       → s₃ ≡ splice s₂ r (leBytes 8 (g .indexBytes))
@@ -33,19 +35,19 @@ module _ (s : List ℕ) (room : 0x1BE ≤ length s) (g : Geometry) where
         p-is,
         q-is,
         r-is,
-        join s superBlockAt x 8 y (length-stamp _) (rw length-leBytes (omega arith)),
-        join s superBlockAt (x ++ y) 16 z (simp (length-append, length-stamp, length-leBytes)) (rw length-leBytes (omega arith)),
+        join s (superBlockAt (g .edition)) x 8 y (length-stamp _) (rw length-leBytes (omega (arith, super-bounds (g .edition)))),
+        join s (superBlockAt (g .edition)) (x ++ y) 16 z (simp (length-append, length-stamp, length-leBytes)) (rw length-leBytes (omega (arith, super-bounds (g .edition)))),
       )
-      (ap (splice s superBlockAt) (append-assoc x y z))
+      (ap (splice s (superBlockAt (g .edition))) (append-assoc x y z))
 
-  pub summed-put : (p₁ p₂ p₃ p₄ p₅ : ℕ) → p₁ ≡ magicAt → p₂ ≡ versionAt → p₃ ≡ totalAt → p₄ ≡ reservedAt → p₅ ≡ blockFieldAt → (s₁ s₂ s₃ s₄ s₅ : List ℕ) (v b : ℕ)
+  pub summed-put : (p₁ p₂ p₃ p₄ p₅ : ℕ) → p₁ ≡ (magicAt (g .edition)) → p₂ ≡ (versionAt (g .edition)) → p₃ ≡ (totalAt (g .edition)) → p₄ ≡ (reservedAt (g .edition)) → p₅ ≡ (blockFieldAt (g .edition)) → (s₁ s₂ s₃ s₄ s₅ : List ℕ) (v b : ℕ)
       → v ≡ g .version → v < 256 → b ≡ g .blockField → b < 256
       → s₁ ≡ splice s p₁ (leBytes 3 0x53_4653)
       → s₂ ≡ splice s₁ p₂ (leBytes 1 v)
       → s₃ ≡ splice s₂ p₃ (leBytes 8 (g .total))
       → s₄ ≡ splice s₃ p₄ (leBytes 4 (g .reserved))
       → s₅ ≡ splice s₄ p₅ (leBytes 1 b)
-      → s₅ ≡ splice s magicAt (summedBytes g)
+      → s₅ ≡ splice s (magicAt (g .edition)) (summedBytes g)
   unfolding summedBytes
   summed-put p₁ p₂ p₃ p₄ p₅ i₁ i₂ i₃ i₄ i₅ s₁ s₂ s₃ s₄ s₅ v b v-is v-fits b-is b-fits e₁ e₂ e₃ e₄ e₅ =
       let x = g .version ∷ [] in
@@ -68,21 +70,21 @@ module _ (s : List ℕ) (room : 0x1BE ≤ length s) (g : Geometry) where
         magic-number,
         ex,
         ew,
-        join s magicAt magic 3 x refl (omega arith),
-        join s magicAt (magic ++ x) 4 y refl (rw length-leBytes (omega arith)),
-        join s magicAt ((magic ++ x) ++ y) 12 z (simp length-leBytes) (rw length-leBytes (omega arith)),
-        join s magicAt (((magic ++ x) ++ y) ++ z) 16 w (simp (length-append, length-leBytes)) (omega arith),
+        join s (magicAt (g .edition)) magic 3 x refl (omega (arith, super-bounds (g .edition))),
+        join s (magicAt (g .edition)) (magic ++ x) 4 y refl (rw length-leBytes (omega (arith, super-bounds (g .edition)))),
+        join s (magicAt (g .edition)) ((magic ++ x) ++ y) 12 z (simp length-leBytes) (rw length-leBytes (omega (arith, super-bounds (g .edition)))),
+        join s (magicAt (g .edition)) (((magic ++ x) ++ y) ++ z) 16 w (simp (length-append, length-leBytes)) (omega (arith, super-bounds (g .edition))),
       )
-      (ap (splice s magicAt) (simp append-assoc))
+      (ap (splice s (magicAt (g .edition))) (simp append-assoc))
 
   -- the checksum is over what was just written
-  module _ (t : List ℕ) (sums : t ≡ splice (putSizes s g) magicAt (summedBytes g)) where
-    summed-part : part t magicAt 17 ≡ summedBytes g
+  module _ (t : List ℕ) (sums : t ≡ splice (putSizes s g) (magicAt (g .edition)) (summedBytes g)) where
+    summed-part : part t (magicAt (g .edition)) 17 ≡ summedBytes g
     summed-part =
-        let fits : magicAt + length (summedBytes g) ≤ length (putSizes s g) = omega (arith, length-summed g, length-putSizes s g room) in
-        rw sums (rw length-summed at (part-splice-in (putSizes s g) magicAt (summedBytes g) fits))
+        let fits : (magicAt (g .edition)) + length (summedBytes g) ≤ length (putSizes s g) = omega (arith, length-summed g, length-putSizes s g (omega (arith, super-bounds (g .edition))), super-bounds (g .edition)) in
+        rw sums (rw length-summed at (part-splice-in (putSizes s g) (magicAt (g .edition)) (summedBytes g) fits))
 
-    pub super-put : (k p : ℕ) (u : List ℕ) → p ≡ blockFieldAt + 1 → k ≡ checksumOf (part t magicAt 17) → k < 256 → u ≡ splice t p (leBytes 1 k) → u ≡ splice s superBlockAt (superBlockBytes g)
+    pub super-put : (k p : ℕ) (u : List ℕ) → p ≡ superBlockAt (g .edition) + 41 → k ≡ checksumOf (part t (magicAt (g .edition)) 17) → k < 256 → u ≡ splice t p (leBytes 1 k) → u ≡ splice s (superBlockAt (g .edition)) (superBlockBytes g)
     unfolding putSizes superBlockBytes
     super-put k p u p-is k-is k-fits e =
         let z = k ∷ [] in
@@ -92,8 +94,8 @@ module _ (s : List ℕ) (room : 0x1BE ≤ length s) (g : Geometry) where
           p-is,
           sums,
           byte-alone k k-fits,
-          join s superBlockAt (sizesBytes g) 24 (summedBytes g) (length-sizes g) (omega (arith, length-summed g)),
-          join s superBlockAt (sizesBytes g ++ summedBytes g) 41 z (omega (arith, length-append (sizesBytes g) (summedBytes g), length-sizes g, length-summed g)) (omega arith),
+          join s (superBlockAt (g .edition)) (sizesBytes g) 24 (summedBytes g) (length-sizes g) (omega (arith, length-summed g, super-bounds (g .edition))),
+          join s (superBlockAt (g .edition)) (sizesBytes g ++ summedBytes g) 41 z (omega (arith, length-append (sizesBytes g) (summedBytes g), length-sizes g, length-summed g)) (omega (arith, super-bounds (g .edition))),
           i,
         )
-        (ap (splice s superBlockAt) (append-assoc (sizesBytes g) (summedBytes g) z))
+        (ap (splice s (superBlockAt (g .edition))) (append-assoc (sizesBytes g) (summedBytes g) z))

@@ -11,18 +11,20 @@ use borrow.Author.Tests.{eqb-true}
 use Rattle.rules.specs.Lists.{part}
 use Rattle.rules.specs.Lists.Laws.{and-both}
 use Rattle.rules.specs.Fields.{splice}
-use Rattle.rules.specs.SuperBlock.{Geometry, blockLength}
-use Rattle.rules.specs.SuperBlock.Laws.{geometry-same}
+use Rattle.rules.specs.Editions.{Edition}
+use Rattle.rules.specs.SuperBlock.{Geometry, blockLength, geometryOf}
+use Rattle.rules.specs.SuperBlock.Laws.{sealed-part, geometry-same}
 use Rattle.rules.specs.Names.{pathGood}
 use Rattle.rules.specs.Index.{Entry, fileType, liveType, typeFile, itemsOf}
 use Rattle.rules.specs.Index.Frame.{take-same}
 use Rattle.rules.specs.Regions.{blocksOf}
 use Rattle.rules.specs.Paths.{isLive, liveAt, lookup, nextLive}
 use Rattle.rules.specs.Refusals.{Verdict, accepted, need, needFound, andThen, Volume, entries, judge}
-use Rattle.rules.specs.Refusals.Laws.{judge-opens}
+use Rattle.rules.specs.Refusals.Laws.{judge-opens, edition-same}
 use Rattle.rules.specs.Outcome.{Outcome, done, conclude, onVolume, noEntry, numbersOf, noneListed}
 use Rattle.rules.specs.Reading.{findOf, readOf, listOf, listed, fileBytes}
 use Rattle.rules.specs.History.{Agree, SameAnswer, TwoImages}
+use Rattle.laws.proofs.Lists.Parts.{some-same}
 use Rattle.laws.proofs.Lists.Every.{only-says, first-says, all-first}
 use Rattle.laws.proofs.Entries.Regions.{sound-says, file-region}
 use Rattle.two_images.specs.Unseen.{liveFile}
@@ -61,18 +63,18 @@ module _ (s t : List ℕ) (v : Volume) (first : judge s ≡ accepted v) (second 
       alike-volume noEntry s t [] v _ _ first second
       (alike-need noEntry s t [] (pathGood path) 10 _ _ (λ _.
       alike-found noEntry s t [] (lookup path (entries v)) 11 _ _ (λ e _.
-      alike-done noEntry s t [] (numbersOf e) [] [] refl)))
+      alike-done noEntry s t [] (numbersOf (v .geometry .edition) e) [] [] refl)))
 
-  alike-listed : (out : List ℕ) (o : Option Entry) → Alike noneListed s t out (listed s out o) (listed t out o)
+  alike-listed : (ed : Edition) (out : List ℕ) (o : Option Entry) → Alike noneListed s t out (listed ed s out o) (listed ed t out o)
   unfolding listed
-  alike-listed out none = alike-done noneListed s t out noneListed out out refl
-  alike-listed out (some e) =
+  alike-listed ed out none = alike-done noneListed s t out noneListed out out refl
+  alike-listed ed out (some e) =
       alike-need noneListed s t out (leb (length (e .path)) (length out)) 18 _ _ (λ _.
       alike-done noneListed s t out _ _ _ refl)
 
   same-list : (slot : ℕ) (out : List ℕ) → SameAnswer (listOf s slot out) (listOf t slot out)
   unfolding listOf
-  same-list slot out = alike-volume noneListed s t out v _ _ first second (alike-listed out (nextLive slot (entries v)))
+  same-list slot out = alike-volume noneListed s t out v _ _ first second (alike-listed (v .geometry .edition) out (nextLive slot (entries v)))
 
   -- read asks besides that the bytes of the files that it finds agree
   same-read :
@@ -93,7 +95,10 @@ one-volume s t a =
     let v = a .otherVolume in
     let o = judge-opens s (a .volume) (a .opens) in
     let p = judge-opens t v (a .otherOpens) in
-    let g : v .geometry ≡ a .volume .geometry = p .geometry-is ∙ sym (o .geometry-is ∙ geometry-same s t (a .superBlock)) in
+    let ed = a .volume .geometry .edition in
+    let d : v .geometry .edition ≡ ed = some-same _ _ (sym (p .edition-is) ∙ edition-same ed t s (sym (sealed-part ed s t (a .superBlock))) (o .edition-is)) in
+    let g : v .geometry ≡ a .volume .geometry =
+    p .geometry-is ∙ ap (λ (x : Edition). geometryOf x t) d ∙ sym (o .geometry-is ∙ geometry-same ed s t (a .superBlock)) in
     let i : v .items ≡ a .volume .items = p .items-are ∙ ap (itemsOf t) g ∙ sym (o .items-are ∙ items-same s t (a .volume .geometry) (a .index)) in
     a .otherOpens ∙ ap accepted (ap₂ {C = Volume} (λ h is. record { geometry = h; items = is }) g i)
 

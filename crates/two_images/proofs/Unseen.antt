@@ -1,5 +1,6 @@
 -- What the claim about two images means: bytes that are no field of the super-block, in no live file and not in the index area may be
--- anything. So may the boot code, the reserved area, what lies behind the data area, and the blocks of deleted files. Assumes nothing.
+-- anything. So may the boot code, the reserved area, what lies behind the data area, and the blocks that no live file holds, those of deleted
+-- files among them. Assumes nothing.
 use Prim.Native.Nat.{ℕ, _+_, _-_, _*_, _≤_, _<_}
 use mathlib.Core.Path.{_≡_, refl, sym, ap, _∙_}
 use mathlib.Core.Bool.{Bool, true, false, _||_}
@@ -10,20 +11,22 @@ use native.Mathlib.Nat.{mul-le-mul-right, zero-mul}
 use lib.ListN.{length, take, drop, length-drop}
 use lib.Seq.{ext-getD, getD-take, getD-drop}
 use lib.Dec.{leb}
-use borrow.Author.Tests.{leb-true}
+use borrow.Author.Tests.{leb-true, leb-false}
 use Rattle.rules.specs.Lists.{part, only, All}
 use Rattle.rules.specs.Lists.Laws.{and-true, length-part}
 use Rattle.rules.specs.Fields.{byteAt}
-use Rattle.rules.specs.SuperBlock.{Geometry, blockLength, dataEnd, superBlockAt}
+use Rattle.rules.specs.Editions.{superBlockAt}
+use Rattle.rules.specs.Editions.Laws.{super-bounds}
+use Rattle.rules.specs.SuperBlock.{Geometry, blockLength, dataEnd}
 use Rattle.rules.specs.SuperBlock.Laws.{areas-fit}
 use Rattle.rules.specs.Index.{Entry, fileType, liveType, typeDeletedFile}
-use Rattle.rules.specs.Regions.{blocksOf, apart}
-use Rattle.rules.specs.Regions.Laws.{apart-back}
+use Rattle.rules.specs.Regions.{holds, blocksOf, apart, busy}
+use Rattle.rules.specs.Regions.Laws.{holds-in, apart-back}
 use Rattle.rules.specs.Paths.{isLive}
 use Rattle.rules.specs.Refusals.{accepted, Volume, entries, judge}
 use Rattle.rules.specs.Refusals.Laws.{Opens, judge-opens}
 use Rattle.rules.specs.History.{Agree, SameAnswers}
-use Rattle.laws.proofs.Lists.Every.{not-both, all-weaken, all-join, all-at, all-placed, pairs-split, only-holds}
+use Rattle.laws.proofs.Lists.Every.{not-both, none-passes, all-weaken, all-join, all-at, all-placed, pairs-split, only-holds}
 use Rattle.laws.proofs.Entries.Regions.{sound-says, FileRegion, file-region, region-bytes}
 use Rattle.two_images.specs.Unseen.{liveFile, OutOfBlocks, Unseen, DifferUnseen}
 use Rattle.two_images.proofs.Reopens.{reopens}
@@ -78,10 +81,10 @@ differ-agree s t d =
     o : Opens s v
     o = judge-opens s v (d .opens)
 
-    same-fields : part s superBlockAt 42 ≡ part t superBlockAt 42
+    same-fields : part s (superBlockAt (g .edition)) 42 ≡ part t (superBlockAt (g .edition)) 42
     same-fields =
-        part-ext s t (d .lengths) superBlockAt 42 (omega (arith, o .length-low)) (λ p low high.
-        seen-byte s t d p (omega (arith, o .length-low)) (λ u. ⊎-elim (λ l. omega arith) (λ h. omega arith) (u .fields)))
+        part-ext s t (d .lengths) (superBlockAt (g .edition)) 42 (omega (arith, o .length-low, super-bounds (g .edition))) (λ p low high.
+        seen-byte s t d p (omega (arith, o .length-low, super-bounds (g .edition))) (λ u. ⊎-elim (λ l. omega arith) (λ h. omega arith) (u .fields)))
 
     same-index : drop (length s - g .indexBytes) s ≡ drop (length t - g .indexBytes) t
     same-index =
@@ -114,7 +117,7 @@ module _ (s : List ℕ) (v : Volume) (opens : judge s ≡ accepted v) where
 
   -- a byte outside the data area, and neither field nor index
   outside : (p : ℕ) → (p < g .reserved * blockLength g) ⊎ (dataEnd g * blockLength g ≤ p)
-      → (p < superBlockAt) ⊎ (superBlockAt + 42 ≤ p)
+      → (p < superBlockAt (g .edition)) ⊎ (superBlockAt (g .edition) + 42 ≤ p)
       → p < length s - g .indexBytes
       → Unseen s v p
   outside p w f i =
@@ -140,14 +143,14 @@ module _ (s : List ℕ) (v : Volume) (opens : judge s ≡ accepted v) where
       let l : g .reserved * blockLength g ≤ dataEnd g * blockLength g = mul-le-mul-right (blockLength g) (omega arith) in
       omega (arith, l, areas-fit (length s) g good)
 
-  -- the boot code, bytes 0 to 0x193
-  pub boot-unseen : (p : ℕ) → p < superBlockAt → Unseen s v p
+  -- the boot code, bytes 0 to 0x193, in 1.10 to 0x18D
+  pub boot-unseen : (p : ℕ) → p < superBlockAt (g .edition) → Unseen s v p
   boot-unseen p h =
       let c = judge-opens s v opens .geometry-good .reserved-covers in
-      outside p (inl (omega (arith, c))) (inl h) (omega (arith, c, reserved-below))
+      outside p (inl (omega (arith, c, h, super-bounds (g .edition)))) (inl h) (omega (arith, c, h, super-bounds (g .edition), reserved-below))
 
-  -- the reserved area from 0x1BE on
-  pub reserved-unseen : (p : ℕ) → superBlockAt + 42 ≤ p → p < g .reserved * blockLength g → Unseen s v p
+  -- the reserved area from 0x1BE on, in 1.10 from 0x1B8 on
+  pub reserved-unseen : (p : ℕ) → superBlockAt (g .edition) + 42 ≤ p → p < g .reserved * blockLength g → Unseen s v p
   reserved-unseen p l h = outside p (inl h) (inr l) (omega (arith, reserved-below))
 
   -- what lies between the data area and the index area
@@ -156,7 +159,31 @@ module _ (s : List ℕ) (v : Volume) (opens : judge s ≡ accepted v) where
   free-unseen p l h =
       let c = judge-opens s v opens .geometry-good .reserved-covers in
       let k : g .reserved * blockLength g ≤ dataEnd g * blockLength g = mul-le-mul-right (blockLength g) (omega arith) in
-      outside p (inr l) (inr (omega (arith, c, k, l))) h
+      outside p (inr l) (inr (omega (arith, c, k, l, super-bounds (g .edition)))) h
+
+-- ---- a block that no live file holds: where deleted entries are not kept, also what a deleted file leaves
+clear-block : (g : Geometry) (b p : ℕ) → b * blockLength g ≤ p → p < (b + 1) * blockLength g → (e : Entry) → holds b e ≡ false → OutOfBlocks g p e
+clear-block g b p low high e h = go (leb (e .end) b) refl (leb (b + 1) (e .start)) refl
+  where
+    go : (t : Bool) → leb (e .end) b ≡ t → (u : Bool) → leb (b + 1) (e .start) ≡ u → OutOfBlocks g p e
+    go true q u r = inr (omega (arith, low, mul-le-mul-right (blockLength g) (leb-true (e .end) b q)))
+    go false q true r = inl (omega (arith, high, mul-le-mul-right (blockLength g) (leb-true (b + 1) (e .start) r)))
+    go false q false r =
+        absurd (not-both (holds b e) (holds-in b e (omega (arith, leb-false (b + 1) (e .start) r)) (omega (arith, leb-false (e .end) b q))) h)
+
+pub unheld-unseen : (s : List ℕ) (v : Volume) → judge s ≡ accepted v
+    → (b : ℕ) → v .geometry .reserved ≤ b → b < dataEnd (v .geometry) → busy (only liveFile (entries v)) b ≡ false
+    → (p : ℕ) → b * blockLength (v .geometry) ≤ p → p < (b + 1) * blockLength (v .geometry) → Unseen s v p
+unfolding busy
+unheld-unseen s v opens b least most free p low high =
+    let g = v .geometry in
+    let good = judge-opens s v opens .geometry-good in
+    let top : (b + 1) * blockLength g ≤ dataEnd g * blockLength g = mul-le-mul-right (blockLength g) (omega (arith, most)) in
+    record {
+      fields = inr (omega (arith, low, good .reserved-covers, mul-le-mul-right (blockLength g) least, super-bounds (g .edition)));
+      index = omega (arith, high, top, areas-fit (length s) g good);
+      files = all-weaken _ _ (clear-block g b p low high) (only liveFile (entries v)) (none-passes (holds b) (only liveFile (entries v)) free);
+    }
 
 -- ---- the blocks of a deleted file
 dead : (d : Entry) → d .kind ≡ typeDeletedFile → (liveFile d ≡ false) × (fileType (d .kind) ≡ true)
@@ -189,7 +216,7 @@ deleted-unseen s v opens d before after e k p low high =
     (λ l. omega (arith, good .reserved-covers, mul-le-mul-right (blockLength g) l))
     (r .lower) in
     record {
-      fields = inr (omega arith);
+      fields = inr (omega (arith, bottom, super-bounds (g .edition)));
       index = omega (arith, mul-le-mul-right (blockLength g) (r .upper), areas-fit (length s) g good);
       files = rw e (only-holds (OutOfBlocks g p) liveFile (before ++ (d ∷ after))
           (all-join _ before (d ∷ after)

@@ -7,7 +7,8 @@ use mathlib.Core.Logic.{_⊎_}
 use lib.ListN.{length}
 use Rattle.rules.specs.Lists.{only, All}
 use Rattle.rules.specs.Fields.{byteAt}
-use Rattle.rules.specs.SuperBlock.{Geometry, blockLength, superBlockAt}
+use Rattle.rules.specs.Editions.{superBlockAt}
+use Rattle.rules.specs.SuperBlock.{Geometry, blockLength}
 use Rattle.rules.specs.Index.{Entry, fileType}
 use Rattle.rules.specs.Paths.{isLive}
 use Rattle.rules.specs.Refusals.{accepted, Volume, entries, judge}
@@ -21,7 +22,7 @@ OutOfBlocks g p e = (p < e .start * blockLength g) ⊎ (e .end * blockLength g �
 
 -- the byte p is none of the super-block's fields, the index area and the blocks of live files
 pub record Unseen (s : List ℕ) (v : Volume) (p : ℕ) : Type 0 where
-  pub fields : (p < superBlockAt) ⊎ (superBlockAt + 42 ≤ p)
+  pub fields : (p < superBlockAt (v .geometry .edition)) ⊎ (superBlockAt (v .geometry .edition) + 42 ≤ p)
   pub index : p < length s - v .geometry .indexBytes
   pub files : All (OutOfBlocks (v .geometry) p) (only liveFile (entries v))
 

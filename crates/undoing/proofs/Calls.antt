@@ -3,12 +3,12 @@ use Prim.Native.Nat.{ℕ}
 use mathlib.Core.Path.{_≡_, refl, sym, ap, subst, _∙_}
 use mathlib.Core.Bool.{Bool, true, false}
 use mathlib.Core.List.{List}
-use mathlib.Core.Logic.{_⊎_, inl, inr}
-use native.Mathlib.Omega.{arith}
+use mathlib.Core.Logic.{inl, inr}
 use lib.IntN.{ℤ}
 use Rattle.rules.specs.Lists.{pick, any}
 use Rattle.rules.specs.Lists.Laws.{pick-true, pick-false}
 use Rattle.rules.specs.Fields.{Bytes}
+use Rattle.rules.specs.Editions.{keepsDeleted}
 use Rattle.rules.specs.Names.{pathGood}
 use Rattle.rules.specs.Paths.{deletedAt}
 use Rattle.rules.specs.Refusals.{accepted, Volume, entries, judge}
@@ -22,7 +22,7 @@ use Rattle.laws.proofs.Images.Accepted.{passed-opens}
 use Rattle.after.proofs.Delete.{delete-passed}
 use Rattle.after.proofs.Reclaim.Left.{Reopens, reclaim-reopens}
 use Rattle.after.proofs.Back.{deleted-restored, reclaimed-restored, still-may}
-use Rattle.undoing.specs.Undone.{Undone, TooLate}
+use Rattle.undoing.specs.Undone.{UndoneBy, Undone, TooLate}
 
 -- a call answers and leaves what its definition does
 same-refusal : (r : ℕ) (t : List ℕ) (o : Written) → writtenAs r t ≡ o → r ≡ o .refusal
@@ -39,10 +39,12 @@ pub not-reclaimed : {X : Type 0} (s t : List ℕ) (stamp : ℤ) (r : ℕ) → Re
 not-reclaimed s t stamp r e n z = absurd (n (same-refusal r t (reclaimOf s stamp) e ∙ z))
 
 -- ---- a delete undone
-restored-as : (b : Bool) (s t u : List ℕ) (q : ℕ) → writtenAs q u ≡ pick b (refusedWrite t 19) (wrote s) → ((q ≡ 0) × (u ≡ s)) ⊎ ((q ≡ 19) × (u ≡ t))
+restored-as : (keeps b : Bool) (s t u : List ℕ) (q : ℕ) → writtenAs q u ≡ pick keeps (pick b (refusedWrite t 19) (wrote s)) (refusedWrite t 11)
+    → UndoneBy keeps s t q u
 unfolding pick done
-restored-as true s t u q e = inr (ap (λ (x : Written). x .refusal) e, ap (λ (x : Written). x .image) e)
-restored-as false s t u q e = inl (ap (λ (x : Written). x .refusal) e, ap (λ (x : Written). x .image) e)
+restored-as true true s t u q e = inr (ap (λ (x : Written). x .refusal) e, ap (λ (x : Written). x .image) e)
+restored-as true false s t u q e = inl (ap (λ (x : Written). x .refusal) e, ap (λ (x : Written). x .image) e)
+restored-as false b s t u q e = (ap (λ (x : Written). x .refusal) e, ap (λ (x : Written). x .image) e)
 
 pub undone : (s t u path : List ℕ) (stamp old : ℤ) (f : Entry) (r q : ℕ) → Bytes s → Finds s path f → Deletes s path stamp r t
     → old ≡ f .stamp → Restores t path old q u → Undone s path stamp q u
@@ -52,12 +54,16 @@ undone s t u path stamp old f r q bytes finds deletes same restores z =
     let o = passed-opens s _ z in
     let d = delete-passed s (o .0) path stamp (o .1) z in
     let was : f .stamp ≡ d .it .stamp = ap (λ x. x .answer .stamp) (finds ∙ find-done s (o .0) (o .1) path (d .it) (d .named) (d .found)) in
+    let keeps : Bool = keepsDeleted (o .0 .geometry .edition) in
     let b : Bool = any (deletedAt path) (entries (o .0)) in
-    let back : restoreOf t path (d .it .stamp) ≡ pick b (refusedWrite t 19) (wrote s) =
-    subst (λ (x : List ℕ). restoreOf x path (d .it .stamp) ≡ pick b (refusedWrite x 19) (wrote s)) i
-    (deleted-restored s (o .0) path (d .it) stamp bytes (o .1) (d .found) z) in
-    subst (λ (x : List ℕ). ((q ≡ 0) × (u ≡ s)) ⊎ ((q ≡ 19) × (u ≡ x))) (sym i)
-    (restored-as b s t u q (restores ∙ ap (restoreOf t path) (same ∙ was) ∙ back))
+    let back : restoreOf t path (d .it .stamp) ≡ pick keeps (pick b (refusedWrite t 19) (wrote s)) (refusedWrite t 11) =
+    subst (λ (x : List ℕ). restoreOf x path (d .it .stamp) ≡ pick keeps (pick b (refusedWrite x 19) (wrote s)) (refusedWrite x 11)) i
+    (deleted-restored s (o .0) path (d .it) stamp bytes (o .1) (d .found) z) in (
+      o .0,
+      o .1,
+      subst (λ (x : List ℕ). UndoneBy keeps s x q u) (sym i)
+          (restored-as keeps b s t u q (restores ∙ ap (restoreOf t path) (same ∙ was) ∙ back)),
+    )
 
 -- ---- a restore too late
 refused-as : (t u : List ℕ) (q n m : ℕ) → n ≡ m → writtenAs q u ≡ refusedWrite t m → (q ≡ n) × (u ≡ t)

@@ -92,5 +92,36 @@ fn format_argument(w: &mut Writer) {
         3 => text::cut_off(&mut w.rng, length),
         _ => volume_name(&mut w.rng),
     };
-    w.format(block, reserved, &name);
+    let version = version(w);
+    w.format_as(version, block, reserved, &name);
+}
+
+/// Mostly that of the scene. The others are refused, or lay the other edition.
+fn version(w: &mut Writer) -> u64 {
+    let own = u64::from(w.edition.version());
+    let others = [
+        0,
+        1,
+        0x0F,
+        0x10,
+        0x10,
+        0x11,
+        0x19,
+        0x1A,
+        0x1A,
+        0x1B,
+        0x20,
+        0xFF,
+        0x110,
+        0x1A00,
+        (1 << 32) + 0x10,
+        (1 << 32) + 0x1A,
+        (1 << 63) + 0x1A,
+        u64::MAX,
+        u64::MAX - 0xE5,
+    ];
+    if w.rng.chance(55) {
+        return own;
+    }
+    w.rng.pick(&others)
 }

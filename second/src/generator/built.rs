@@ -1,11 +1,12 @@
 //! Images built slot by slot, with what no call of ours would leave: unusable entries, odd unused
 //! types, long names, runs longer than their names, gaps between regions, newer versions, deleted
-//! entries of a path by the two and three or without their directory.
+//! entries of a path by the two and three or without their directory, stray slots and wrong sums.
 
-use super::{least_reserved, odd_path, path_of_length, text, volume_name, Known, Writer};
+use super::{least_reserved, odd_path, path_of_length, right_sum, text, volume_name, Known, Writer};
 use crate::bytes::put;
+use crate::edition::{Edition, SUM_AT};
 use crate::index::{self, DELETED_DIRECTORY, DELETED_FILE, DIRECTORY, DIRECTORY_NAME_AT, FILE, IDENTIFIER, MARKER};
-use crate::index::{UNUSABLE, UNUSED};
+use crate::index::{COUNT_AT, END_AT, FILE_NAME_AT, LENGTH_AT, STAMP_AT, START_AT, UNUSABLE, UNUSED};
 use crate::superblock::{self, Geometry, CHECKSUM, MOST_INDEX, VERSION};
 use crate::xorshift::Xorshift;
 
@@ -30,7 +31,7 @@ pub fn scene(w: &mut Writer) {
     if w.rng.chance(10) {
         return nearly_full_index(w);
     }
-    let mut builder = Builder::new(&mut w.rng);
+    let mut builder = Builder::new(&mut w.rng, w.edition);
     while builder.slot < builder.geometry.slots() - 1 {
         builder.add(&mut w.rng);
     }
@@ -48,7 +49,7 @@ fn nearly_full_index(w: &mut Writer) {
     let image = 294_912;
     let index = MOST_INDEX - 64 * w.rng.below(7);
     let reserved = least_reserved(block) + w.rng.below(2);
-    let geometry = Geometry { image, block, total: image / block, reserved, data: 0, index };
+    let geometry = Geometry { edition: w.edition, image, block, total: image / block, reserved, data: 0, index };
     let mut builder = Builder::with(geometry, VERSION_1_0_ONLY, &mut w.rng);
     // Keeps the pokes few: only the entries' first slots are not zeros.
     builder.rubbish = 0;
@@ -62,6 +63,7 @@ fn nearly_full_index(w: &mut Writer) {
     bring_back(w);
     for _ in 0..5 {
         let length = w.rng.pick(&[1, 29, 30, 93, 94, 157, 158, 285]);
+        let length = w.edge(length);
         let serial = w.serial();
         let path = path_of_length(&mut w.rng, b"z", length, serial).split_off(2);
         let room = w.rng.pick(&[0, 0, 1, block, 20_000]);
@@ -78,7 +80,7 @@ const SOME_NEWER: u64 = 15;
 
 impl Builder {
     /// An empty index of some size, not always starting at a block.
-    fn new(rng: &mut Xorshift) -> Self {
+    pub fn new(rng: &mut Xorshift, edition: Edition) -> Self {
         let block = 256 << rng.below(5);
         let reserved = least_reserved(block) + rng.below(3);
         let index = 64 * (2 + rng.below(28));
@@ -86,23 +88,27 @@ impl Builder {
         let image = total * block;
         let room = (image - index) / block - reserved;
         let data = if rng.chance(60) { room - rng.below(room.min(3)) } else { rng.below(room + 1) };
-        Builder::with(Geometry { image, block, total, reserved, data, index }, SOME_NEWER, rng)
+        Builder::with(Geometry { edition, image, block, total, reserved, data, index }, SOME_NEWER, rng)
     }
 
-    /// An empty index of this geometry, of a newer version in about `newer` cases of a hundred.
+    /// An empty index of this geometry, of a newer version in about `newer` cases of a hundred; less often in the edition
+    /// that no call reads then.
     pub fn with(geometry: Geometry, newer: u64, rng: &mut Xorshift) -> Self {
+        let edition = geometry.edition;
+        let newer = if edition == Edition::V1_0 { newer } else { newer / 4 };
         let mut image = vec![0; geometry.image as usize];
         superblock::write(&mut image, &geometry, rng.step() as i64 >> 8);
         if rng.chance(newer) {
             let version = 0x11 + rng.below(0xEF) as u8;
-            put(&mut image, VERSION, &[version]);
-            let checksum = superblock::sum(&image, CHECKSUM).wrapping_neg();
-            put(&mut image, CHECKSUM, &[checksum]);
+            put(&mut image, edition.super_field(VERSION), &[version]);
+            let checksum = superblock::checksum(&image, edition);
+            put(&mut image, edition.super_field(CHECKSUM), &[checksum]);
         }
-        put(&mut image, geometry.slot_offset(0), &[MARKER]);
+        put(&mut image, geometry.slot_offset(0), &edition.bare_slot(MARKER));
         let identifier = geometry.slot_offset(geometry.slots() - 1);
         put(&mut image, identifier, &[IDENTIFIER, 0, 0, 0, 7]);
         put(&mut image, identifier + 12, &volume_name(rng));
+        edition.seal(&mut image[identifier..]);
         let rubbish = rng.pick(&[0, 0, 1, 2, 0x12, 0x41, 0xFF]);
         Builder {
             image,
@@ -118,7 +124,7 @@ impl Builder {
     }
 
     /// Adds one slot or run of some kind.
-    fn add(&mut self, rng: &mut Xorshift) {
+    pub fn add(&mut self, rng: &mut Xorshift) {
         match rng.below(10) {
             0..=2 => self.unused(rng),
             3 => {
@@ -136,9 +142,10 @@ impl Builder {
         }
     }
 
-    /// An unused slot of any such type, with rubbish behind it.
+    /// An unused slot of any such type, with rubbish behind it; a stray one where that is no fault.
     pub fn unused(&mut self, rng: &mut Xorshift) {
-        let kind = rng.below(0x20) as u8;
+        let stray = self.geometry.edition.rewrites(0xFF) && rng.chance(25);
+        let kind = if stray { 0x20 + rng.below(0xE0) as u8 } else { rng.below(0x20) as u8 };
         let used = matches!(kind, IDENTIFIER | MARKER | DIRECTORY | FILE | UNUSABLE | DELETED_DIRECTORY | DELETED_FILE);
         let mut slot = [rng.byte(); 64];
         slot[0] = if used { UNUSED } else { kind };
@@ -187,13 +194,23 @@ impl Builder {
         self.choose_path(rng, deleted);
         let path = self.path.clone();
         let is_file = matches!(kind, FILE | DELETED_FILE);
-        let needed = slots_for(kind, path.len() + 1);
+        let edition = self.geometry.edition;
+        let needed = slots_for(edition, kind, path.len() + 1);
         let slots = needed + if rng.chance(if deleted { 25 } else { 15 }) { rng.below(3) } else { 0 };
         if self.slot + slots > self.geometry.slots() - 1 {
             return self.unused(rng);
         }
-        let numbers = if is_file && rng.chance(80) { self.extent(rng) } else { (0, 0, 0) };
+        let held = !deleted || edition.keeps_deleted();
+        let numbers = match is_file && rng.chance(80) {
+            true if held => self.extent(rng),
+            true => (rng.below(9), rng.below(9), rng.below(9_999)),
+            false => (0, 0, 0),
+        };
+        let at = self.geometry.slot_offset(self.slot);
         self.entry(kind, slots, &path, numbers);
+        if !held && rng.chance(20) {
+            self.break_sum(rng, at);
+        }
         match kind {
             DIRECTORY if path.len() < 120 => self.directories.push(path),
             DELETED_FILE | DELETED_DIRECTORY => self.deleted.push(path),
@@ -215,20 +232,38 @@ impl Builder {
         self.run(kind, slots, &[name.as_slice(), b"\0"].concat(), numbers);
     }
 
-    /// Writes a run with these bytes, which fit it, from where its name starts.
+    /// Makes the sum of a run wrong.
+    pub fn break_sum(&mut self, rng: &mut Xorshift, at: usize) {
+        let byte = self.image[at + SUM_AT].wrapping_add(1 + rng.below(255) as u8);
+        put(&mut self.image, at + SUM_AT, &[byte]);
+    }
+
+    /// Makes the sum of a run right, where the edition has sums.
+    pub fn seal(&mut self, at: usize) {
+        if let Some(byte) = right_sum(&self.image, self.geometry.edition, at) {
+            put(&mut self.image, at + SUM_AT, &[byte]);
+        }
+    }
+
+    /// Writes a run with these bytes, which fit it, from where its name starts. The numbers are the first block, the one
+    /// past the last, and the length.
     pub fn run(&mut self, kind: u8, slots: u64, field: &[u8], numbers: (u64, u64, u64)) {
+        let edition = self.geometry.edition;
+        let at = |place| if kind == UNUSABLE { place } else { edition.entry_field(place) };
+        let end = if numbers.1 == 0 { 0 } else { edition.stored_end(numbers.1) };
         let mut run = vec![self.rubbish; slots as usize * 64];
         put(&mut run, 0, &[kind]);
         if matches!(kind, FILE | DELETED_FILE | UNUSABLE) {
-            put(&mut run, 10, &numbers.0.to_le_bytes());
-            put(&mut run, 18, &numbers.1.to_le_bytes());
-            put(&mut run, 26, &numbers.2.to_le_bytes());
+            put(&mut run, at(START_AT), &numbers.0.to_le_bytes());
+            put(&mut run, at(END_AT), &end.to_le_bytes());
+            put(&mut run, at(LENGTH_AT), &numbers.2.to_le_bytes());
         }
         if kind != UNUSABLE {
-            put(&mut run, 1, &[(slots - 1) as u8]);
-            put(&mut run, 2, &(self.slot as i64 - 9).to_le_bytes());
-            put(&mut run, name_at(kind), field);
+            put(&mut run, at(COUNT_AT), &[(slots - 1) as u8]);
+            put(&mut run, at(STAMP_AT), &(self.slot as i64 - 9).to_le_bytes());
+            put(&mut run, name_at(edition, kind), field);
         }
+        edition.seal(&mut run);
         put(&mut self.image, self.geometry.slot_offset(self.slot), &run);
         self.slot += slots;
     }
@@ -240,31 +275,37 @@ impl Builder {
         let other = 1 + rng.below(self.geometry.slots() - 2);
         let at = self.geometry.slot_offset(slot);
         let from = self.geometry.slot_offset(other);
+        let edition = self.geometry.edition;
+        let field = |place| at + edition.entry_field(place);
         match rng.below(7) {
-            4 => put(&mut self.image, at + 10, &(self.geometry.reserved + rng.below(4)).to_le_bytes()),
+            4 => put(&mut self.image, field(START_AT), &(self.geometry.reserved + rng.below(4)).to_le_bytes()),
             0 => put(&mut self.image, at, &[rng.pick(&[0x01, 0x02, 0x20, 0x41, 0x7F, 0xFF])]),
             1 => put(&mut self.image, at, &[rng.below(0x20) as u8]),
-            2 => put(&mut self.image, at + 1, &[rng.byte()]),
-            5 => put(&mut self.image, at + rng.pick(&[10, 34, 50]), &text::fault(rng)),
+            2 => put(&mut self.image, field(COUNT_AT), &[rng.byte()]),
+            5 => put(&mut self.image, field(rng.pick(&[DIRECTORY_NAME_AT, FILE_NAME_AT, 50])), &text::fault(rng)),
             6 => put(&mut self.image, self.geometry.image as usize - 52, &text::faulty(rng, 10)),
             _ => self.image.copy_within(from..from + 64, at),
+        }
+        if rng.chance(70) {
+            self.seal(at);
+            self.seal(self.geometry.image as usize - 64);
         }
     }
 }
 
 /// Where the name starts. Only kinds that have one are asked about, so the fallback is never met.
-pub fn name_at(kind: u8) -> usize {
-    index::name_at(kind).unwrap_or(DIRECTORY_NAME_AT)
+pub fn name_at(edition: Edition, kind: u8) -> usize {
+    index::name_at(edition, kind).unwrap_or(DIRECTORY_NAME_AT)
 }
 
 /// The bytes that the name and what stands behind it have in a run.
-pub fn capacity(kind: u8, slots: u64) -> usize {
-    64 * slots as usize - name_at(kind)
+pub fn capacity(edition: Edition, kind: u8, slots: u64) -> usize {
+    64 * slots as usize - name_at(edition, kind)
 }
 
 /// The fewest slots of a run that has at least so many bytes for a name.
-pub fn slots_for(kind: u8, bytes: usize) -> u64 {
-    (bytes + name_at(kind)).div_ceil(64) as u64
+pub fn slots_for(edition: Edition, kind: u8, bytes: usize) -> u64 {
+    (bytes + name_at(edition, kind)).div_ceil(64) as u64
 }
 
 /// Looks at everything, then writes into the holes.
@@ -318,6 +359,7 @@ fn create(w: &mut Writer, directory: bool) -> u8 {
     let parents: Vec<Vec<u8>> = w.live().into_iter().filter(|known| known.directory).map(|known| known.path).collect();
     let parent = if w.rng.chance(50) { w.rng.pick(&parents) } else { Vec::new() };
     let length = w.rng.pick(&[0, 0, 29, 30, 53, 54, 93, 94, 285]);
+    let length = w.edge(length);
     let serial = w.serial();
     let mut path = path_of_length(&mut w.rng, &parent, length, serial);
     path.push(b'w');

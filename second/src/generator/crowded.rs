@@ -4,6 +4,7 @@
 use super::built::{slots_for, Builder};
 use super::{least_reserved, text, volume_name, Known, Writer};
 use crate::bytes::put;
+use crate::edition::Edition;
 use crate::index::{DELETED_DIRECTORY, DELETED_FILE, DIRECTORY, FILE, UNUSABLE, UNUSED};
 use crate::names;
 use crate::superblock::{Geometry, MOST_INDEX, SLOT};
@@ -55,7 +56,7 @@ struct Item {
 }
 
 pub fn scene(w: &mut Writer) {
-    let (mut crowd, good) = Crowd::new(&mut w.rng);
+    let (mut crowd, good) = Crowd::new(&mut w.rng, w.edition);
     if w.rng.chance(50) {
         crowd.plant(&mut w.rng);
     }
@@ -223,6 +224,7 @@ struct Shares {
 
 /// The items of a volume in the order they come to mind: directories before what is in them.
 struct Mix {
+    edition: Edition,
     items: Vec<Item>,
     /// The slots they take, and those there are.
     used: u64,
@@ -233,13 +235,13 @@ struct Mix {
 }
 
 impl Mix {
-    fn new(rng: &mut Xorshift, slots: u64, names: &mut Names) -> Self {
+    fn new(rng: &mut Xorshift, edition: Edition, slots: u64, names: &mut Names) -> Self {
         let shares = Shares {
             unused: rng.pick(&[0, 0, 0, 1, 10, 40]),
             unusable: rng.pick(&[0, 1, 1, 6]),
             deleted: rng.pick(&[0, 3, 3, 15, 30]),
         };
-        let mut mix = Mix { items: Vec::new(), used: 0, slots, deleted: Vec::new(), chained: 0 };
+        let mut mix = Mix { edition, items: Vec::new(), used: 0, slots, deleted: Vec::new(), chained: 0 };
         while mix.used < slots {
             mix.add(rng, names, &shares);
             if mix.chained == 0 && names.chain.is_empty() {
@@ -282,7 +284,7 @@ impl Mix {
     /// What does not fit any more leaves the slots that are left unused.
     fn push(&mut self, kind: u8, path: Vec<u8>) {
         let named = !matches!(kind, UNUSED | UNUSABLE);
-        let slots = if named { slots_for(kind, path.len() + 1) } else { 1 };
+        let slots = if named { slots_for(self.edition, kind, path.len() + 1) } else { 1 };
         let left = self.slots - self.used;
         let item = if slots > left {
             Item { kind: UNUSED, slots: left, ..Item::default() }
@@ -377,10 +379,10 @@ struct Crowd {
 
 impl Crowd {
     /// A good volume, and its image.
-    fn new(rng: &mut Xorshift) -> (Self, Vec<u8>) {
+    fn new(rng: &mut Xorshift, edition: Edition) -> (Self, Vec<u8>) {
         let slots = some_slots(rng);
         let mut names = Names::new(rng, slots);
-        let mut items = Mix::new(rng, slots, &mut names).arrange(rng, names.look);
+        let mut items = Mix::new(rng, edition, slots, &mut names).arrange(rng, names.look);
         let block = some_block(rng, slots);
         let reserved = least_reserved(block) + rng.below(3);
         let index = SLOT * (slots + 2);
@@ -390,7 +392,7 @@ impl Crowd {
         let tight = (end + tail + index.div_ceil(block)).max(reserved + 2);
         let total = if rng.chance(40) { tight.max(LISTED / block) } else { tight };
         let data = end - reserved + if rng.chance(30) { rng.below(tail + 1) } else { 0 };
-        let geometry = Geometry { image: total * block, block, total, reserved, data, index };
+        let geometry = Geometry { edition, image: total * block, block, total, reserved, data, index };
         let builder = Builder::with(geometry, SOME_NEWER, rng);
         let mut crowd = Crowd { builder, items };
         crowd.lay_all(rng);
@@ -465,9 +467,14 @@ impl Crowd {
         Some(place)
     }
 
+    /// Whether an item is judged at all: deleted ones are not where they are unused slots.
+    fn judged(&self, item: &Item) -> bool {
+        self.builder.geometry.edition.keeps_deleted() || !matches!(item.kind, DELETED_FILE | DELETED_DIRECTORY)
+    }
+
     /// Entries with blocks, in the order of their slots or of their blocks.
     fn holders(&self, by_block: bool) -> Vec<usize> {
-        let mut holders = self.places(|item| item.end > 0);
+        let mut holders = self.places(|item| item.end > 0 && self.judged(item));
         if by_block {
             holders.sort_by_key(|place| self.items[*place].start);
         }
@@ -518,7 +525,7 @@ impl Crowd {
 
     /// Refusal 6: a byte that no name may have, in the last name.
     fn forbid(&mut self, rng: &mut Xorshift) -> Option<usize> {
-        let place = *self.places(|item| !item.path.is_empty()).last()?;
+        let place = *self.places(|item| !item.path.is_empty() && self.judged(item)).last()?;
         let path = &mut self.items[place].path;
         let end = path.len() - 1;
         let any = rng.below(end as u64 + 1) as usize;
@@ -542,8 +549,9 @@ impl Crowd {
 
     /// Gives an entry another path if its run has the room.
     fn rename(&mut self, place: usize, path: Vec<u8>) -> bool {
+        let edition = self.builder.geometry.edition;
         let item = &mut self.items[place];
-        let fits = slots_for(item.kind, path.len() + 1) <= item.slots;
+        let fits = slots_for(edition, item.kind, path.len() + 1) <= item.slots;
         if fits {
             item.path = path;
         }
@@ -560,10 +568,11 @@ impl Crowd {
             return self.move_out(rng);
         }
         let place = rng.pick(&needed);
+        let edition = self.builder.geometry.edition;
         let item = &mut self.items[place];
         match rng.below(4) {
             0 => item.kind = DELETED_DIRECTORY,
-            1 if slots_for(FILE, item.path.len() + 1) <= item.slots => item.kind = FILE,
+            1 if slots_for(edition, FILE, item.path.len() + 1) <= item.slots => item.kind = FILE,
             2 => item.path.iter_mut().last().into_iter().for_each(|byte| *byte = b'Q'),
             _ => item.kind = UNUSED,
         }
@@ -758,21 +767,21 @@ mod tests {
 
     #[test]
     fn without_a_fault_all_is_good() {
-        for seed in 1..=400 {
-            let (crowd, good) = Crowd::new(&mut Writer::new(seed).rng);
+        for (seed, edition) in (1..=400).flat_map(|seed| Edition::ALL.map(|edition| (seed, edition))) {
+            let (crowd, good) = Crowd::new(&mut Writer::new(seed).rng, edition);
             let volume = Volume::judge(&good);
             let entries = volume.map(|volume| volume.index.entries.iter().map(|entry| entry.slot).collect::<Vec<_>>());
-            let items = crowd.items.iter().filter(|item| item.kind != UNUSED).map(|item| item.slot).collect();
-            assert_eq!(entries, Ok(items), "seed {seed}");
+            let judged = crowd.items.iter().filter(|item| item.kind != UNUSED && crowd.judged(item));
+            assert_eq!(entries, Ok(judged.map(|item| item.slot).collect()), "seed {seed}");
         }
     }
 
     /// How often each refusal number came of so many faults of one sort.
-    fn answers(which: u64) -> [u64; 9] {
+    fn answers(which: u64, edition: Edition) -> [u64; 9] {
         let mut counts = [0; 9];
         for seed in 1..=300 {
             let mut rng = Writer::new(1_000 * which + seed).rng;
-            let (mut crowd, _) = Crowd::new(&mut rng);
+            let (mut crowd, _) = Crowd::new(&mut rng, edition);
             crowd.fault(&mut rng, which);
             counts[usize::from(answer(&crowd.builder.image))] += 1;
         }
@@ -782,12 +791,14 @@ mod tests {
     /// The smallest volumes have no room for some faults; two of the sorts are at times none.
     #[test]
     fn faults_have_their_number() {
-        for (which, number) in [(0, 7), (1, 7), (2, 7), (3, 7), (4, 6), (5, 8), (6, 8), (7, 8), (8, 8)] {
-            let counts = answers(which);
-            println!("fault {which}: {counts:?}");
-            assert_eq!(counts[0] + counts[number], 300, "fault {which}: {counts:?}");
-            assert!(counts[number] > 120, "fault {which}: {counts:?}");
+        for edition in Edition::ALL {
+            for (which, number) in [(0, 7), (1, 7), (2, 7), (3, 7), (4, 6), (5, 8), (6, 8), (7, 8), (8, 8)] {
+                let counts = answers(which, edition);
+                println!("{edition:?} fault {which}: {counts:?}");
+                assert_eq!(counts[0] + counts[number], 300, "fault {which}: {counts:?}");
+                assert!(counts[number] > 120, "fault {which}: {counts:?}");
+            }
+            assert!([2, 3].iter().all(|which| answers(*which, edition)[0] > 30));
         }
-        assert!([2, 3].iter().all(|which| answers(*which)[0] > 30));
     }
 }

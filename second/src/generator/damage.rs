@@ -1,7 +1,8 @@
-//! A healthy volume with one field damaged at a time; after a few calls it is made whole again.
+//! A healthy volume with one field damaged at a time; after a few calls it is made whole again. At times it is cut last.
 
+use super::edges::cut_short;
 use super::{least_reserved, text, volume_name, Known, Writer};
-use crate::index::{COUNT_AT, END_AT, LENGTH_AT, START_AT};
+use crate::index::{self, COUNT_AT, END_AT, LENGTH_AT, START_AT, UNUSABLE};
 use crate::superblock::{Geometry, BLOCK_SIZE, CHECKSUM, DATA, INDEX, MAGIC, RESERVED, STAMP, TOTAL, VERSION};
 use crate::volume::Volume;
 
@@ -12,6 +13,8 @@ struct Healthy {
     spots: Vec<Spot>,
     live: Vec<Known>,
     deleted: Vec<Known>,
+    /// The first unused slot's byte offset.
+    unused: Option<usize>,
     volume_name: Vec<u8>,
 }
 
@@ -24,6 +27,7 @@ struct Spot {
     start: u64,
     end: u64,
     slot: u64,
+    kind: u8,
     name: Vec<u8>,
 }
 
@@ -37,6 +41,9 @@ pub fn scene(w: &mut Writer) {
         w.poke_back(&healthy.image);
     }
     w.put("history".to_string());
+    if w.rng.chance(25) {
+        cut_short(w);
+    }
 }
 
 /// A volume with every kind of entry, among them an unusable one poked in.
@@ -50,11 +57,12 @@ fn volume(w: &mut Writer, block: u64) -> Option<Healthy> {
     w.mkfile(&gone, 2 * block);
     w.mkdir(b"d");
     w.mkfile(b"d/f", block + 1);
-    let long = if w.rng.chance(40) { vec![b'g'; 30] } else { text::across(&mut w.rng, 30) };
+    let (file_end, directory_end) = (w.edge(30), w.edge(52));
+    let long = if w.rng.chance(40) { vec![b'g'; file_end] } else { text::across(&mut w.rng, file_end) };
     w.mkfile(&long, 3);
     w.mkfile(b"empty", 0);
     w.mkdir(&old);
-    let long = if w.rng.chance(40) { vec![b'h'; 52] } else { text::across(&mut w.rng, 52) };
+    let long = if w.rng.chance(40) { vec![b'h'; directory_end] } else { text::across(&mut w.rng, directory_end) };
     w.mkdir(&[b"d/".to_vec(), long].concat());
     w.delete(&gone);
     w.delete(&old);
@@ -71,11 +79,20 @@ fn volume(w: &mut Writer, block: u64) -> Option<Healthy> {
 /// Turns the deleted directory's slot into an unusable entry on the last block of the data area.
 fn unusable(w: &mut Writer) {
     let Some(healthy) = healthy(w) else { return };
-    let Some(spot) = healthy.spots.iter().find(|spot| spot.name.starts_with(b"old")) else { return };
-    let end = healthy.geometry.data_end();
-    let data = healthy.geometry.data + 1;
-    w.poke(DATA, &data.to_le_bytes());
-    w.poke(spot.at, &[&[0x18; 10][..], &end.to_le_bytes(), &(end + 1).to_le_bytes()].concat());
+    let old = healthy.spots.iter().find(|spot| spot.name.starts_with(b"old")).map(|spot| spot.at);
+    // Where nothing stays deleted it is the one unused slot of its own.
+    let Some(at) = old.or(healthy.unused) else { return };
+    unusable_at(w, &healthy.geometry, at);
+}
+
+/// Writes an unusable entry on one more block of the data area.
+pub fn unusable_at(w: &mut Writer, geometry: &Geometry, at: usize) {
+    let end = geometry.data_end();
+    let data = geometry.data + 1;
+    w.poke(geometry.edition.super_field(DATA), &data.to_le_bytes());
+    let stored = geometry.edition.stored_end(end + 1);
+    w.poke(at, &[&[UNUSABLE; 10][..], &end.to_le_bytes(), &stored.to_le_bytes()].concat());
+    w.reseal(at);
 }
 
 fn healthy(w: &Writer) -> Option<Healthy> {
@@ -83,11 +100,12 @@ fn healthy(w: &Writer) -> Option<Healthy> {
     let geometry = volume.super_block.geometry;
     let spots = volume.index.entries.iter().map(|entry| Spot {
         at: geometry.slot_offset(entry.slot),
-        name_at: crate::index::name_at(entry.kind).unwrap_or(34),
+        name_at: index::name_at(geometry.edition, entry.kind).unwrap_or(34),
         bytes: entry.slots as usize * 64,
         start: entry.start,
         end: entry.end,
         slot: entry.slot,
+        kind: entry.kind,
         name: entry.path.to_vec(),
     });
     Some(Healthy {
@@ -96,10 +114,12 @@ fn healthy(w: &Writer) -> Option<Healthy> {
         spots: spots.collect(),
         live: w.live(),
         deleted: w.deleted(),
+        unused: volume.index.unused.first().map(|slot| geometry.slot_offset(*slot)),
         volume_name: volume.index.volume_name.to_vec(),
     })
 }
 
+/// Damages one field. The sum that covers it is made right again more often than not.
 fn damage(w: &mut Writer, healthy: &Healthy) {
     let spot = w.rng.pick(&healthy.spots);
     match w.rng.below(15) {
@@ -112,6 +132,14 @@ fn damage(w: &mut Writer, healthy: &Healthy) {
         11 | 12 if !spot.name.is_empty() => w.damage_name(spot.at + spot.name_at, &spot.name),
         13 => volume_text(w, healthy),
         _ => anywhere(w, healthy),
+    }
+    if w.rng.chance(75) {
+        let first = healthy.geometry.slot_offset(0);
+        for at in [spot.at, first, healthy.image.len() - 64] {
+            if w.image().get(at..at + 64) != healthy.image.get(at..at + 64) {
+                w.reseal(at);
+            }
+        }
     }
 }
 
@@ -159,18 +187,19 @@ fn super_field(w: &mut Writer, healthy: &Healthy) {
         (MAGIC, 3),
         (CHECKSUM, 1),
     ];
-    let (at, width) = w.rng.pick(&fields);
+    let (field, width) = w.rng.pick(&fields);
+    let at = w.edition.super_field(field);
     let mut current = [0; 8];
     current[..width].copy_from_slice(&healthy.image[at..at + width]);
     let current = u64::from_le_bytes(current);
-    let value = match at {
-        VERSION => w.rng.pick(&[0, 1, 0x0F, 0x10, 0x11, 0x12, 0x20, 0x7F, 0x80, 0xFF]),
+    let value = match field {
+        VERSION => w.rng.pick(&[0, 1, 0x0F, 0x10, 0x11, 0x12, 0x19, 0x1A, 0x1B, 0x20, 0x7F, 0x80, 0xFF]),
         BLOCK_SIZE => w.rng.pick(&[0, 1, 2, 3, 4, 5, 6, 0x7F, 0x80, 0xFF, current + 1, current.wrapping_sub(1)]),
         _ => boundary(w, healthy, current),
     };
     w.poke(at, &value.to_le_bytes()[..width]);
-    if at != CHECKSUM && w.rng.chance(70) {
-        w.refit();
+    if field != CHECKSUM && w.rng.chance(70) {
+        w.refit(w.edition);
     }
 }
 
@@ -183,22 +212,24 @@ fn entry_type(w: &mut Writer, spot: &Spot) {
 fn entry_count(w: &mut Writer, healthy: &Healthy, spot: &Spot) {
     let most = (healthy.geometry.slots() - 2 - spot.slot) as u8;
     let count = w.rng.pick(&[0, 1, 2, most, most.wrapping_add(1), most.wrapping_sub(1), 254, 255]);
-    w.poke(spot.at + COUNT_AT, &[count]);
+    w.poke(spot.at + w.edition.entry_field(COUNT_AT), &[count]);
 }
 
 fn entry_number(w: &mut Writer, healthy: &Healthy, spot: &Spot) {
-    let block = healthy.geometry.block;
-    let room = (spot.end.wrapping_sub(spot.start)).wrapping_mul(block);
-    let at = w.rng.pick(&[START_AT, END_AT, LENGTH_AT]);
-    let current = match at {
+    let Geometry { block, edition, .. } = healthy.geometry;
+    let past = edition.past(spot.end).unwrap_or(0);
+    let room = (past.wrapping_sub(spot.start)).wrapping_mul(block);
+    let place = w.rng.pick(&[START_AT, END_AT, LENGTH_AT]);
+    let current = match place {
         START_AT => w.rng.pick(&[spot.start, spot.end]),
         END_AT => w.rng.pick(&[spot.end, spot.start]),
         _ => room,
     };
     let value = boundary(w, healthy, current);
-    w.poke(spot.at + at, &value.to_le_bytes());
+    let at = |place| spot.at + if spot.kind == UNUSABLE { place } else { edition.entry_field(place) };
+    w.poke(at(place), &value.to_le_bytes());
     if w.rng.chance(15) {
-        w.poke(spot.at + START_AT, &[0; 16]);
+        w.poke(at(START_AT), &[0; 16]);
     }
 }
 
@@ -237,7 +268,7 @@ fn marker(w: &mut Writer, healthy: &Healthy) {
     match w.rng.below(5) {
         0 => w.poke(first, &[byte]),
         1 => w.poke(last, &[byte]),
-        // Spare bytes, which nobody judges.
+        // Spare bytes, which nobody judges but in a sum.
         2 => w.poke(first + 1, &[byte; 63]),
         3 => {
             let name = vec![b'V'; 51 + w.rng.below(2) as usize];

@@ -41,6 +41,9 @@ pub fn scene(w: &mut Writer) {
     w.put("history".to_string());
     if length < LARGE {
         cut(w, length);
+    } else {
+        w.put(format!("truncate {}", LARGE + 1));
+        w.put("open 51".to_string());
     }
 }
 
@@ -54,6 +57,7 @@ fn outputs(w: &mut Writer, name: u64, block: u64) {
         w.restore(b"f");
     }
     let length = w.rng.pick(&[1, 29, 30, 93, 94, 285]);
+    let length = w.edge(length);
     let path = if w.rng.chance(50) { vec![b'p'; length] } else { text::of_length(&mut w.rng, length) };
     let cut_off = text::cut_off(&mut w.rng, length);
     w.mkdir(&cut_off);
@@ -85,4 +89,25 @@ fn cut(w: &mut Writer, length: u64) {
     w.put(format!("truncate {length}"));
     w.open();
     w.put("history".to_string());
+    if w.rng.chance(40) {
+        cut_short(w);
+    }
+}
+
+/// Every call on less than an image has, with the magic of either edition still in it, that of 1.10 alone, or none.
+pub fn cut_short(w: &mut Writer) {
+    let length = w.rng.pick(&[511, 511, 511, 0x1AF, 0x1AE, 0x1A9, 0x1A8]);
+    w.put(format!("truncate {length}"));
+    w.open();
+    w.find(b"f");
+    w.put("list 0 285".to_string());
+    w.read(b"f");
+    w.mkfile(b"f", 1);
+    w.mkdir(b"g");
+    w.delete(b"f");
+    w.restore(b"f");
+    w.reclaim();
+    w.put("listing".to_string());
+    let version = w.rng.pick(&[0x0F, 0x10, 0x1A, 0x1B]);
+    w.format_as(version, 256, 2, b"");
 }

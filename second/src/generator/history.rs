@@ -2,6 +2,7 @@
 //! everything that is left and the check of the history.
 
 use super::{least_reserved, odd_path, path_of_length, restore, text, volume_name, Writer};
+use crate::edition::Edition;
 use crate::script::hex;
 
 /// What the calls of one history mostly are.
@@ -13,6 +14,7 @@ enum Mode {
     Deep,
 }
 
+/// As edition 1.0 has them.
 const EDGE_LENGTHS: [usize; 12] = [1, 29, 30, 53, 54, 93, 94, 117, 118, 284, 285, 286];
 /// Bytes of a name up to the end of a slot, for files and for directories.
 const SLOT_ENDS: [usize; 8] = [30, 54, 94, 118, 158, 182, 222, 246];
@@ -26,7 +28,7 @@ const POOL: [&str; 17] = [
 pub fn scene(w: &mut Writer) {
     let block = 256 << w.rng.below(5);
     begin(w, block);
-    let mode = [Mode::Churn, Mode::FillSlots, Mode::FillBlocks, Mode::Deep][w.rng.below(4) as usize];
+    let mode = some_mode(w);
     if mode == Mode::FillSlots && w.rng.chance(70) {
         // With no free block left, the index soon has nowhere to grow.
         let length = free_blocks(w) * block;
@@ -58,6 +60,18 @@ pub fn begin(w: &mut Writer, block: u64) {
     let reserved = if w.rng.chance(80) { least } else { least + w.rng.below(total - 1 - least) };
     let name = volume_name(&mut w.rng);
     w.format(block, reserved, &name);
+}
+
+/// So many steps of any mode.
+pub fn steps(w: &mut Writer, count: u64, block: u64) {
+    let mode = some_mode(w);
+    for _ in 0..count {
+        step(w, mode, block);
+    }
+}
+
+fn some_mode(w: &mut Writer) -> Mode {
+    [Mode::Churn, Mode::FillSlots, Mode::FillBlocks, Mode::Deep][w.rng.below(4) as usize]
 }
 
 fn step(w: &mut Writer, mode: Mode, block: u64) {
@@ -121,10 +135,12 @@ fn new_path(w: &mut Writer) -> Vec<u8> {
         0..=5 => w.rng.pick(&POOL).as_bytes().to_vec(),
         6..=8 => {
             let length = w.rng.pick(&EDGE_LENGTHS);
+            let length = w.edge(length);
             path_somewhere(w, length)
         }
         9 => {
             let end = w.rng.pick(&SLOT_ENDS);
+            let end = w.edge(end);
             text::across(&mut w.rng, end)
         }
         10 => some_live(w),
@@ -169,6 +185,7 @@ fn create_file(w: &mut Writer, block: u64) {
 
 fn create_empty(w: &mut Writer) {
     let length = w.rng.pick(&[0, 0, 0, 29, 30, 93, 94, 285]);
+    let length = w.edge(length);
     let serial = w.serial();
     let path = path_of_length(&mut w.rng, b"", length, serial);
     if w.rng.chance(70) {
@@ -247,7 +264,19 @@ fn reformat(w: &mut Writer, block: u64) {
     let block = if w.rng.chance(50) { block } else { 128 << w.rng.below(7) };
     let reserved = least_reserved(block) + w.rng.below(3);
     let name = if w.rng.chance(80) { volume_name(&mut w.rng) } else { odd_path(&mut w.rng) };
-    w.format(block, reserved, &name);
+    if w.rng.chance(65) {
+        w.format(block, reserved, &name);
+    } else {
+        format_other(w, block, reserved, &name);
+    }
+}
+
+/// A format in the other edition, which the scene goes on in if it is accepted.
+pub fn format_other(w: &mut Writer, block: u64, reserved: u64, name: &[u8]) {
+    let other = if w.edition == Edition::V1_0 { Edition::V1_10 } else { Edition::V1_0 };
+    if w.format_as(other.version().into(), block, reserved, name) == 0 {
+        w.edition = other;
+    }
 }
 
 fn odd(w: &mut Writer) {

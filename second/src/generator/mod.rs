@@ -6,43 +6,62 @@ mod built;
 mod crowded;
 mod damage;
 mod edges;
+mod editions;
 mod history;
 mod names;
 mod restore;
+mod sums;
 mod tails;
 mod text;
 
-use crate::index::Entry;
+use crate::edition::{Edition, SUM_AT};
+use crate::index::{self, Entry, COUNT_AT};
 use crate::script::{hex, Session};
-use crate::superblock::{Geometry, CHECKSUM};
+use crate::superblock::{self, Geometry, CHECKSUM};
 use crate::volume::Volume;
 use crate::xorshift::Xorshift;
 
 type Scene = fn(&mut Writer);
 
-/// The families of scenes, with the weight each has in a mixed script.
-const FAMILIES: [(&str, u64, Scene); 9] = [
-    ("history", 40, history::scene),
-    ("damage", 20, damage::scene),
-    ("built", 20, built::scene),
-    ("edges", 8, edges::scene),
-    ("args", 12, args::scene),
-    ("names", 12, names::scene),
-    ("restore", 20, restore::scene),
-    ("tails", 12, tails::scene),
-    ("crowded", 6, crowded::scene),
+/// A family of scenes.
+struct Family {
+    name: &'static str,
+    /// What it weighs in a mixed script.
+    weight: u64,
+    /// How many of a hundred scenes are of edition 1.10.
+    newer: u64,
+    scene: Scene,
+}
+
+const fn family(name: &'static str, weight: u64, newer: u64, scene: Scene) -> Family {
+    Family { name, weight, newer, scene }
+}
+
+const FAMILIES: [Family; 11] = [
+    family("history", 40, 35, history::scene),
+    family("damage", 20, 35, damage::scene),
+    family("built", 20, 35, built::scene),
+    family("edges", 8, 35, edges::scene),
+    family("args", 12, 35, args::scene),
+    family("names", 12, 35, names::scene),
+    // Nothing comes back in edition 1.10.
+    family("restore", 20, 15, restore::scene),
+    family("tails", 12, 25, tails::scene),
+    family("crowded", 6, 35, crowded::scene),
+    family("sums", 24, 100, sums::scene),
+    family("editions", 16, 65, editions::scene),
 ];
 
 /// A script of about `count` calls, of one family or mixed; nothing when there is no such family.
 pub fn script(seed: u64, count: u64, kind: Option<&str>) -> Option<String> {
-    let known = kind.is_none_or(|kind| FAMILIES.iter().any(|family| family.0 == kind));
+    let known = kind.is_none_or(|kind| FAMILIES.iter().any(|family| family.name == kind));
     if !known {
         return None;
     }
     let mut writer = Writer::new(seed);
     while writer.calls() < count {
-        let scene = writer.choose(kind);
-        scene(&mut writer);
+        let family = writer.choose(kind);
+        writer.play(family);
     }
     Some(writer.script)
 }
@@ -50,10 +69,10 @@ pub fn script(seed: u64, count: u64, kind: Option<&str>) -> Option<String> {
 /// The script number `place` of a self-test: a history, and behind every second one another scene.
 pub fn one(seed: u64, place: u64) -> String {
     let mut writer = Writer::new(seed.wrapping_mul(0x9E37_79B9_7F4A_7C15).wrapping_add(place.wrapping_mul(2) + 1));
-    history::scene(&mut writer);
+    writer.play(&FAMILIES[0]);
     if place % 2 == 1 {
         let family = (place / 2) as usize % (FAMILIES.len() - 1) + 1;
-        (FAMILIES[family].2)(&mut writer);
+        writer.play(&FAMILIES[family]);
     }
     writer.script
 }
@@ -71,6 +90,8 @@ pub struct Known {
 /// Writes a script while following it.
 pub struct Writer {
     pub rng: Xorshift,
+    /// The edition of the scene: what its volumes are formatted in or built in.
+    pub edition: Edition,
     session: Session,
     script: String,
     serial: u64,
@@ -83,18 +104,25 @@ impl Writer {
         for _ in 0..8 {
             rng.step();
         }
-        Writer { rng, session: Session::without_digests(), script: String::new(), serial: 0 }
+        let edition = Edition::default();
+        Writer { rng, edition, session: Session::without_digests(), script: String::new(), serial: 0 }
     }
 
-    fn choose(&mut self, kind: Option<&str>) -> Scene {
-        let mut weight = self.rng.below(FAMILIES.iter().map(|family| family.1).sum());
-        for (name, share, scene) in FAMILIES {
-            if kind == Some(name) || (kind.is_none() && weight < share) {
-                return scene;
+    fn choose(&mut self, kind: Option<&str>) -> &'static Family {
+        let mut weight = self.rng.below(FAMILIES.iter().map(|family| family.weight).sum());
+        for family in &FAMILIES {
+            if kind == Some(family.name) || (kind.is_none() && weight < family.weight) {
+                return family;
             }
-            weight = weight.saturating_sub(share);
+            weight = weight.saturating_sub(family.weight);
         }
-        history::scene
+        &FAMILIES[0]
+    }
+
+    /// One scene of the family, in either edition.
+    fn play(&mut self, family: &Family) {
+        self.edition = if self.rng.chance(family.newer) { Edition::V1_10 } else { Edition::V1_0 };
+        (family.scene)(self);
     }
 
     fn calls(&self) -> u64 {
@@ -120,7 +148,17 @@ impl Writer {
 
     /// The stored geometry when it is good.
     pub fn geometry(&self) -> Option<Geometry> {
-        Geometry::stored(self.image()).filter(Geometry::is_good)
+        let edition = Edition::of_image(self.image())?;
+        Geometry::stored(self.image(), edition).filter(Geometry::is_good)
+    }
+
+    /// A length at the edge of a slot or around it, given for edition 1.0: the same edge in this edition. Lengths
+    /// about the longest path are the same in both.
+    pub fn edge(&self, length: usize) -> usize {
+        match self.edition {
+            Edition::V1_10 if (20..284).contains(&length) => length - 1,
+            _ => length,
+        }
     }
 
     /// The live entries in slot order, none if the image does not open.
@@ -156,10 +194,17 @@ impl Writer {
         self.put(format!("poke {at} {}", hex(bytes)));
     }
 
-    /// Makes the super-block's checksum right again.
-    pub fn refit(&mut self) {
-        let checksum = crate::superblock::sum(self.image(), CHECKSUM).wrapping_neg();
-        self.poke(CHECKSUM, &[checksum]);
+    /// Makes the checksum of the super-block right again, where this edition has it.
+    pub fn refit(&mut self, edition: Edition) {
+        let checksum = superblock::checksum(self.image(), edition);
+        self.poke(edition.super_field(CHECKSUM), &[checksum]);
+    }
+
+    /// Makes the sum of the run right that starts at this byte, where the edition has sums.
+    pub fn reseal(&mut self, at: usize) {
+        if let Some(byte) = right_sum(self.image(), self.edition, at) {
+            self.poke(at + SUM_AT, &[byte]);
+        }
     }
 
     /// Pokes until the image is `wanted`; both have one length.
@@ -242,9 +287,14 @@ impl Writer {
         self.put(format!("reclaim {stamp}"))
     }
 
+    /// A format in the edition of the scene.
     pub fn format(&mut self, block: u64, reserved: u64, name: &[u8]) -> u8 {
+        self.format_as(self.edition.version().into(), block, reserved, name)
+    }
+
+    pub fn format_as(&mut self, version: u64, block: u64, reserved: u64, name: &[u8]) -> u8 {
         let stamp = self.stamp();
-        self.put(format!("format {block} {reserved} {} {stamp}", hex(name)))
+        self.put(format!("format {version} {block} {reserved} {} {stamp}", hex(name)))
     }
 
     pub fn find(&mut self, path: &[u8]) -> u8 {
@@ -284,6 +334,20 @@ impl Writer {
         }
         self.put(format!("list {from} 285"));
     }
+}
+
+/// The sum byte that is right for the run that starts at this byte, if the edition has sums. A run that goes past the
+/// image counts as far as the image goes.
+pub fn right_sum(image: &[u8], edition: Edition, at: usize) -> Option<u8> {
+    if !edition.has_sums() {
+        return None;
+    }
+    let rest = image.get(at..).filter(|rest| rest.len() >= 64)?;
+    let named = index::name_at(edition, rest[0]).is_some();
+    let count = if named { rest[edition.entry_field(COUNT_AT)] } else { 0 };
+    let mut run = rest[..rest.len().min(64 + 64 * usize::from(count))].to_vec();
+    edition.seal(&mut run);
+    Some(run[SUM_AT])
 }
 
 fn known(entry: &Entry) -> Known {

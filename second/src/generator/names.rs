@@ -4,7 +4,7 @@ use super::{odd_path, text, volume_name, Writer};
 use crate::index;
 use crate::volume::Volume;
 
-/// The bytes a name has in its entry's slots up to the end of each, for files and for directories.
+/// As edition 1.0 has them: the bytes a name has in its entry's slots up to the end of each, for files and for directories.
 const FILE_ENDS: [usize; 4] = [30, 94, 158, 222];
 const DIRECTORY_ENDS: [usize; 4] = [54, 118, 182, 246];
 /// Around the lengths at which an entry takes a slot more, and the longest.
@@ -74,9 +74,12 @@ fn allowed(w: &mut Writer) {
 
 fn allowed_path(w: &mut Writer) -> Vec<u8> {
     let length = w.rng.pick(&LENGTHS);
+    let length = w.edge(length);
     let width = 1 + w.rng.below(4) as usize;
     let file_end = w.rng.pick(&FILE_ENDS);
+    let file_end = w.edge(file_end);
     let directory_end = w.rng.pick(&DIRECTORY_ENDS);
+    let directory_end = w.edge(directory_end);
     let rng = &mut w.rng;
     match rng.below(8) {
         0 => text::character(rng, width),
@@ -132,11 +135,14 @@ fn near_known(w: &mut Writer) {
 /// Damages a stored name and looks at the volume. Not seldom it has become another allowed name.
 fn stored(w: &mut Writer) {
     let names = stored_names(w);
-    let (at, name) = w.rng.pick(&names);
+    let (slot_at, at, name) = w.rng.pick(&names);
     if name.is_empty() {
         return;
     }
     w.damage_name(at, &name);
+    if w.rng.chance(85) {
+        w.reseal(slot_at);
+    }
     w.open();
     match w.rng.below(6) {
         0 => w.find(&name),
@@ -147,16 +153,16 @@ fn stored(w: &mut Writer) {
     };
 }
 
-/// Where the names lie, and what they are: the volume's and those of live and deleted entries.
-fn stored_names(w: &Writer) -> Vec<(usize, Vec<u8>)> {
+/// Where the slots and the names in them lie, and what they are: the volume's and those of live and deleted entries.
+fn stored_names(w: &Writer) -> Vec<(usize, usize, Vec<u8>)> {
     let Ok(volume) = Volume::judge(w.image()) else { return Vec::new() };
     let geometry = volume.super_block.geometry;
     let named = volume.index.entries.iter().filter_map(|entry| {
-        let at = geometry.slot_offset(entry.slot) + index::name_at(entry.kind)?;
-        Some((at, entry.path.to_vec()))
+        let at = geometry.slot_offset(entry.slot);
+        Some((at, at + index::name_at(geometry.edition, entry.kind)?, entry.path.to_vec()))
     });
     let identifier = geometry.slot_offset(geometry.slots() - 1);
-    let volume_name = (identifier + index::VOLUME_NAME_AT, volume.index.volume_name.to_vec());
+    let volume_name = (identifier, identifier + index::VOLUME_NAME_AT, volume.index.volume_name.to_vec());
     // The volume's counts twice: a scene leaves several others.
     named.chain([volume_name.clone(), volume_name]).collect()
 }

@@ -29,7 +29,7 @@ const STORIES: [Story; 18] = [
     relatives,
 ];
 
-/// Lengths of names that take runs of one to five slots.
+/// As edition 1.0 has them: lengths of names that take runs of one to five slots.
 const LENGTHS: [usize; 12] = [0, 0, 0, 0, 29, 30, 53, 54, 93, 94, 200, 285];
 const POOL: [&[u8]; 5] = [b"a", b"b", b"ab", b"a/b", b"\xc3\x80"];
 
@@ -69,13 +69,17 @@ fn roomy(w: &mut Writer) {
 
 fn some_path(w: &mut Writer) -> Vec<u8> {
     let length = w.rng.pick(&LENGTHS);
+    let length = w.edge(length);
     let known = [w.live(), w.deleted()].concat();
     let serial = w.serial();
     match w.rng.below(10) {
         0..=3 => path_of_length(&mut w.rng, b"", length, serial),
         4 | 5 => path_somewhere(w, length),
         6 | 7 if !known.is_empty() => w.rng.pick(&known).path,
-        8 => text::across(&mut w.rng, 30),
+        8 => {
+            let end = w.edge(30);
+            text::across(&mut w.rng, end)
+        }
         _ => w.rng.pick(&POOL).to_vec(),
     }
 }
@@ -107,6 +111,7 @@ fn make(w: &mut Writer, path: &[u8]) {
 /// Creates something else, so that the index or the data area may grow.
 fn make_another(w: &mut Writer) {
     let length = w.rng.pick(&LENGTHS);
+    let length = w.edge(length);
     let path = path_somewhere(w, length);
     make(w, &path);
 }
@@ -397,13 +402,17 @@ fn behind_the_calls(w: &mut Writer) {
     let one = w.rng.pick(&live);
     if w.rng.chance(40) || one.path.is_empty() {
         let version = w.rng.pick(&[0x0F, 0x11, 0x12, 0x20, 0xFF]);
-        w.poke(VERSION, &[version]);
+        w.poke(w.edition.super_field(VERSION), &[version]);
         if w.rng.chance(85) {
-            w.refit();
+            w.refit(w.edition);
         }
     } else if let Some(geometry) = w.geometry() {
         let kind = if one.directory { DELETED_DIRECTORY } else { DELETED_FILE };
-        w.poke(geometry.slot_offset(one.slot), &[kind]);
+        let at = geometry.slot_offset(one.slot);
+        w.poke(at, &[kind]);
+        if w.rng.chance(50) {
+            w.reseal(at);
+        }
     }
     w.open();
     let gone = w.rng.pick(&deleted).path;

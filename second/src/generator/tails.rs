@@ -4,6 +4,7 @@
 use super::built::{capacity, name_at, slots_for, Builder};
 use super::{least_reserved, text, Known, Writer};
 use crate::bytes::put;
+use crate::edition::Edition;
 use crate::index::{DELETED_DIRECTORY, DELETED_FILE, DIRECTORY, FILE};
 use crate::names;
 use crate::superblock::Geometry;
@@ -12,7 +13,7 @@ use std::collections::BTreeMap;
 
 /// Few characters, so that places are often alike by themselves; the wide ones share their last byte.
 const ALIKE: [&str; 7] = ["a", "a", "b", "\u{e9}", "\u{a9}", "\u{5a69}", "\u{10a69}"];
-/// The name bytes of runs of one and two slots, of files and of directories, and of a file with the longest name that
+/// As edition 1.0 has them: the name bytes of runs of one and two slots, of files and of directories, and of a file with the longest name that
 /// create takes.
 const CAPACITIES: [usize; 9] = [30, 54, 30, 54, 30, 54, 94, 118, 286];
 /// Directories come besides from the paths below them.
@@ -36,7 +37,7 @@ struct Stage {
 }
 
 pub fn scene(w: &mut Writer) {
-    let mut stage = Stage::new(&mut w.rng);
+    let mut stage = Stage::new(&mut w.rng, w.edition);
     stage.fill(&mut w.rng);
     w.put(format!("image {}", stage.builder.image.len()));
     w.poke_back(&stage.builder.image);
@@ -49,7 +50,7 @@ pub fn scene(w: &mut Writer) {
 }
 
 impl Stage {
-    fn new(rng: &mut Xorshift) -> Self {
+    fn new(rng: &mut Xorshift, edition: Edition) -> Self {
         let block = 256 << rng.below(3);
         let reserved = least_reserved(block) + rng.below(2);
         let index = 64 * (40 + rng.below(50));
@@ -58,7 +59,8 @@ impl Stage {
         let room = (image - index) / block - reserved;
         // The blocks left free are room for the index to grow.
         let data = room - rng.below(6);
-        let builder = Builder::with(Geometry { image, block, total, reserved, data, index }, SOME_NEWER, rng);
+        let geometry = Geometry { edition, image, block, total, reserved, data, index };
+        let builder = Builder::with(geometry, SOME_NEWER, rng);
         Stage { builder, wanted: Vec::new(), live: BTreeMap::new() }
     }
 
@@ -81,7 +83,8 @@ impl Stage {
 
     /// One more path to search for: short, or about as long as the name bytes of some run; at times below another.
     fn want(&mut self, rng: &mut Xorshift) {
-        let capacity = rng.pick(&CAPACITIES);
+        // Where the fields lie later, there is less room for the name.
+        let capacity = rng.pick(&CAPACITIES) - self.builder.geometry.edition.entry_field(0);
         let length = match rng.below(12) {
             0 | 1 => capacity,
             2 | 3 => capacity - 1,
@@ -131,12 +134,13 @@ impl Stage {
     /// Writes a run if there is room for it.
     fn place(&mut self, rng: &mut Xorshift, kind: u8, stored: &Stored, reach: usize) -> bool {
         let Stored { name, behind } = stored;
-        let slots = some_slots(rng, kind, name.len() + 1, reach);
+        let edition = self.builder.geometry.edition;
+        let slots = some_slots(rng, edition, kind, name.len() + 1, reach);
         if self.builder.slot + slots > self.builder.geometry.slots() - 1 {
             return false;
         }
         let mut field = [name.as_slice(), b"\0", behind].concat();
-        field.truncate(capacity(kind, slots));
+        field.truncate(capacity(edition, kind, slots));
         let numbers = self.some_blocks(rng, kind);
         self.builder.run(kind, slots, &field, numbers);
         if !is_deleted(kind) {
@@ -167,7 +171,7 @@ impl Stage {
         self.builder.unused(rng);
         let mut name = [path, b"\0"].concat();
         name.truncate(30);
-        put(&mut self.builder.image, at + rng.pick(&[10, 34]), &name);
+        put(&mut self.builder.image, at + self.builder.geometry.edition.entry_field(rng.pick(&[10, 34])), &name);
     }
 
     /// What an entry of this kind may hold that is like the path.
@@ -186,7 +190,7 @@ impl Stage {
             13 => twist(rng, path, middle),
             14 => longer(rng, path),
             15 => below(rng, path),
-            16 | 17 => longest(rng, kind, path),
+            16 | 17 => longest(rng, self.builder.geometry.edition, kind, path),
             18 => other_character(rng, path),
             _ => alike(rng, 1 + middle % 4),
         };
@@ -226,9 +230,9 @@ impl Stage {
 
 /// The slots of a run whose name takes so many bytes. Most reach to the last place of a path of `reach` bytes, and no
 /// further than they must.
-fn some_slots(rng: &mut Xorshift, kind: u8, bytes: usize, reach: usize) -> u64 {
-    let needed = slots_for(kind, bytes);
-    let reaching = if reach > MOST_REACH { needed } else { needed.max(slots_for(kind, reach)) };
+fn some_slots(rng: &mut Xorshift, edition: Edition, kind: u8, bytes: usize, reach: usize) -> u64 {
+    let needed = slots_for(edition, kind, bytes);
+    let reaching = if reach > MOST_REACH { needed } else { needed.max(slots_for(edition, kind, reach)) };
     match rng.below(8) {
         0 => needed,
         1 => reaching + 1 + rng.below(2),
@@ -305,10 +309,10 @@ fn below(rng: &mut Xorshift, path: &[u8]) -> Vec<u8> {
 }
 
 /// The longest name of some run: the path cut off or drawn out.
-fn longest(rng: &mut Xorshift, kind: u8, path: &[u8]) -> Vec<u8> {
-    let near = slots_for(kind, path.len());
+fn longest(rng: &mut Xorshift, edition: Edition, kind: u8, path: &[u8]) -> Vec<u8> {
+    let near = slots_for(edition, kind, path.len());
     let slots = rng.pick(&[near, near, near.saturating_sub(1).max(1), near + 1, 1]);
-    drawn_out(rng, path, capacity(kind, slots) - 1)
+    drawn_out(rng, path, capacity(edition, kind, slots) - 1)
 }
 
 /// A path of `length` bytes that starts with this one or as this one does.
@@ -425,7 +429,7 @@ fn past_its_run(w: &mut Writer) -> Vec<u8> {
     let Known { path, directory, slot, .. } = w.rng.pick(&known[early..]);
     let Some(geometry) = w.geometry() else { return path };
     let kind = if directory { DIRECTORY } else { FILE };
-    let at = geometry.slot_offset(slot) + name_at(kind);
+    let at = geometry.slot_offset(slot) + name_at(geometry.edition, kind);
     let left = w.image().len() - at;
     let near = path.len() + w.rng.below(200) as usize;
     let length = w.rng.pick(&[near, near, left - 64, left, left, left + 1]);
@@ -439,12 +443,17 @@ fn past_its_run(w: &mut Writer) -> Vec<u8> {
 
 /// An entry live that was deleted, or the other way round: paths come twice, or lose their directory.
 fn turn_behind_the_calls(w: &mut Writer) {
-    let live = w.rng.chance(70);
+    // Where nothing stays deleted, nothing can be turned back.
+    let live = w.edition.keeps_deleted() && w.rng.chance(70);
     let known = if live { w.deleted() } else { w.live() };
     let Known { path, directory, slot, .. } = w.rng.pick(&known);
     let Some(geometry) = w.geometry().filter(|_| !path.is_empty()) else { return };
     let kind = if directory { DIRECTORY } else { FILE };
-    w.poke(geometry.slot_offset(slot), &[if live { kind } else { deleted(kind) }]);
+    let at = geometry.slot_offset(slot);
+    w.poke(at, &[if live { kind } else { deleted(kind) }]);
+    if w.rng.chance(60) {
+        w.reseal(at);
+    }
     w.open();
     w.find(&path);
     w.restore(&path);

@@ -2,6 +2,7 @@
 #![allow(dead_code)]
 
 use second::superblock::{self, CHECKSUM, DATA, INDEX};
+use second::Edition;
 use second::{
     create_directory, create_file, delete, find, format, list, open, read, reclaim, restore, Found, Listed, Opened,
     Read,
@@ -10,12 +11,12 @@ use second::{
 /// A freshly formatted image of zeros.
 pub fn fresh(length: usize, block: u64, reserved: u64) -> Vec<u8> {
     let mut image = vec![0; length];
-    assert_eq!(format(&mut image, block, reserved, b"VOL", 7).refusal, 0);
+    assert_eq!(format(&mut image, 0x10, block, reserved, b"VOL", 7).refusal, 0);
     image
 }
 
 pub fn refit(image: &mut [u8]) {
-    image[CHECKSUM] = superblock::sum(image, CHECKSUM).wrapping_neg();
+    image[CHECKSUM] = superblock::checksum(image, Edition::V1_0);
 }
 
 pub fn put(image: &mut [u8], at: usize, bytes: &[u8]) {

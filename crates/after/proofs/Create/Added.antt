@@ -1,6 +1,6 @@
 -- The index after a run was written: sound, with the new entry among the others, whether the run went to unused slots or to the front. Assumes nothing.
 use Prim.Native.Nat.{ℕ, _+_, _*_, _≤_}
-use mathlib.Core.Path.{_≡_, refl, ap, ap₂, _∙_}
+use mathlib.Core.Path.{_≡_, refl, sym, ap, ap₂, _∙_}
 use mathlib.Core.List.{List, [], _∷_, _++_, map}
 use lib.ListN.{length}
 use lib.IntN.{pos}
@@ -9,12 +9,12 @@ use Rattle.rules.specs.Fields.{splice}
 use Rattle.rules.specs.SuperBlock.{Geometry}
 use Rattle.rules.specs.SuperBlock.Laws.{GoodGeometry}
 use Rattle.rules.specs.Index.{Entry, Item, entry, itemsOf, entriesOf, isFault, slotAt, slotBytes, runBytes}
-use Rattle.laws.proofs.Lists.Parts.{map-map}
+use Rattle.laws.proofs.Lists.Parts.{map-map, all-parts}
 use Rattle.laws.proofs.Lists.Perms.{perm-back, perm-of, perm-map, perm-insert}
-use Rattle.laws.proofs.Index.Items.{noFault, noFault-swap, one-sound}
+use Rattle.laws.proofs.Index.Items.{noFault, noFault-swap, isTidy, tidy, tidy-sound, one-sound}
 use Rattle.laws.proofs.Index.Entries.{retypedEntry}
 use Rattle.laws.proofs.Index.Places.{entriesOf-append}
-use Rattle.laws.proofs.Index.Unused.{unusedFrom, unusedFrom-entries, UnusedRun}
+use Rattle.laws.proofs.Index.Unused.{unusedFrom, unusedFrom-entries, UnusedRun, unused-plain}
 use Rattle.laws.proofs.Index.Shift.{shiftItem, shiftEntry, entriesOf-shift, noFault-shift}
 use Rattle.laws.proofs.Index.Runs.{Storable, stored}
 use Rattle.laws.proofs.Images.Inner.{Inner}
@@ -59,15 +59,18 @@ unused-order e is pre post k m split =
     ∙ ap (λ (es : List Entry). entriesOf pre ++ es) (entriesOf-append (unusedFrom k m) post ∙ rw (unusedFrom-entries k m)) in
     rw (after, before, ← core-stored e) (perm-map core (perm-back (perm-insert (stored e) (entriesOf pre) (entriesOf post))))
 
-pub unused-added : (s : List ℕ) (g : Geometry) (is : List Item) (e : Entry) → GoodGeometry (length s) g → itemsOf s g ≡ is → noFault is → Storable e → UnusedRun (e .slots) 1 (e .slot) is
-    → Added s (splice s (slotAt s g (e .slot)) (runBytes e)) g e (entriesOf is)
-unused-added s g is e good here sound k r =
-    let clear : noFault (r .pre ++ (unusedFrom (e .slot) (e .slots) ++ r .post)) = rw (r .split) at sound in
-    let items = run-items s g good e k (r .pre) (r .post) (r .place) (here ∙ r .split) clear in
+pub unused-added : (s : List ℕ) (g : Geometry) (is : List Item) (e : Entry) → GoodGeometry (length s) g → itemsOf s g ≡ is → tidy is → Storable (g .edition) e
+    → UnusedRun (e .slots) 1 (e .slot) is → Added s (splice s (slotAt s g (e .slot)) (runBytes (g .edition) e)) g e (entriesOf is)
+unused-added s g is e good here neat k r =
+    let plain : is ≡ r .pre ++ (unusedFrom (e .slot) (e .slots) ++ r .post) = unused-plain (e .slots) 1 (e .slot) is r neat in
+    let tidied : tidy (r .pre ++ (unusedFrom (e .slot) (e .slots) ++ r .post)) = ap (all isTidy) (sym plain) ∙ neat in
+    let clear : noFault (r .pre ++ (unusedFrom (e .slot) (e .slots) ++ r .post)) = tidy-sound _ tidied in
+    let before : tidy (r .pre) = all-parts isTidy (r .pre) (unusedFrom (e .slot) (e .slots) ++ r .post) tidied .0 in
+    let items = run-items s g good e k (r .pre) (r .post) (r .place) (here ∙ plain) clear before in
     record {
-      inner = run-inner s g good e k (r .pre) (r .post) (r .place) (here ∙ r .split) clear;
+      inner = run-inner s g good e k (r .pre) (r .post) (r .place) (here ∙ plain) clear;
       sound = rw items (noFault-swap (r .pre) (unusedFrom (e .slot) (e .slots)) (entry (stored e) ∷ []) (r .post) clear (one-sound (stored e)));
-      order = rw items (unused-order e is (r .pre) (r .post) (e .slot) (e .slots) (r .split));
+      order = rw items (unused-order e is (r .pre) (r .post) (e .slot) (e .slots) plain);
     }
 
 -- ---- in front of the others, whose slots shift
@@ -85,13 +88,13 @@ front-sound : (e : Entry) (d : ℕ) (is : List Item) → noFault is → noFault 
 unfolding all isFault
 front-sound e d is h = noFault-shift d is ∙ h
 
-pub front-added : (s : List ℕ) (g h : Geometry) (is : List Item) (e : Entry) → 128 ≤ g .indexBytes → h .indexBytes ≤ length s → itemsOf s g ≡ is → noFault is → Storable e
-    → e .slot ≡ 1 → h .indexBytes ≡ g .indexBytes + slotBytes * e .slots
-    → Added s (splice s (slotAt s h (e .slot)) (runBytes e)) h e (entriesOf is)
-front-added s g h is e low fits here sound k first grown =
-    let items = grown-items s g h low fits e k first grown ∙ ap (λ (js : List Item). entry (stored e) ∷ map (shiftItem (e .slots)) js) here in
+pub front-added : (s : List ℕ) (g h : Geometry) (is : List Item) (e : Entry) → h .edition ≡ g .edition → 128 ≤ g .indexBytes → h .indexBytes ≤ length s → itemsOf s g ≡ is → noFault is
+    → Storable (g .edition) e → e .slot ≡ 1 → h .indexBytes ≡ g .indexBytes + slotBytes * e .slots
+    → Added s (splice s (slotAt s h (e .slot)) (runBytes (g .edition) e)) h e (entriesOf is)
+front-added s g h is e edition low fits here sound k first grown =
+    let items = grown-items s g h edition low fits e k first grown ∙ ap (λ (js : List Item). entry (stored e) ∷ map (shiftItem (e .slots)) js) here in
     record {
-      inner = grown-inner s g h low fits e k first grown;
+      inner = grown-inner s g h edition low fits e k first grown;
       sound = rw items (front-sound (stored e) (e .slots) is sound);
       order = rw items (front-order e (e .slots) is);
     }

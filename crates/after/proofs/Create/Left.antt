@@ -1,6 +1,6 @@
 -- An accepted create leaves an image that opens, in which the new entry is seen and the others are as they were. Assumes nothing.
 use Prim.Native.Nat.{ℕ, _+_, _*_, _≤_}
-use mathlib.Core.Path.{_≡_, refl, sym, ap, ap₂, _∙_}
+use mathlib.Core.Path.{_≡_, refl, sym, ap, ap₂, subst, _∙_}
 use mathlib.Core.Bool.{true}
 use mathlib.Core.List.{List, _∷_, map}
 use mathlib.Core.Logic.{inl, inr}
@@ -10,8 +10,9 @@ use lib.IntN.{ℤ}
 use Rattle.rules.specs.Lists.{only, padded, All, Perm}
 use Rattle.rules.specs.Lists.Laws.{only-yes, length-padded}
 use Rattle.rules.specs.Fields.{splice}
+use Rattle.rules.specs.Editions.{Edition}
 use Rattle.rules.specs.SuperBlock.{Geometry, blockLength, putSizes}
-use Rattle.rules.specs.SuperBlock.Laws.{asStored, stored-block, stored-index}
+use Rattle.rules.specs.SuperBlock.Laws.{asStored, stored-block, stored-index, stored-edition}
 use Rattle.rules.specs.Names.Laws.{new-path}
 use Rattle.rules.specs.Index.{Entry, itemsOf, slotAt, slotBytes, runBytes}
 use Rattle.rules.specs.Regions.{regionGood, apart, regionsSound, blocksOf, blocksNeeded}
@@ -19,12 +20,13 @@ use Rattle.rules.specs.Paths.{pathsSound}
 use Rattle.rules.specs.Refusals.{accepted, Volume, entries, judge}
 use Rattle.rules.specs.Refusals.Laws.{GoodSuper, Opens, judge-opens, opens-judge, opens-super, sizes-super}
 use Rattle.rules.specs.Reading.{fileBytes}
-use Rattle.rules.specs.Writing.{New, bytesOf, newEntry, putMarker, created, newSlots, newBlocks, Site, siteOf}
+use Rattle.rules.specs.Writing.{New, bytesOf, newEntry, putMarker, created, newSlots, newBlocks, Place, Site, siteOf}
+use Rattle.rules.specs.Writing.Laws.{tidyImage}
 use Rattle.rules.specs.History.{Kept, keptOf}
 use Rattle.after.specs.After.{isNamed, seen, sight, unusables, Left, AfterCreate}
 use Rattle.laws.proofs.Lists.Every.{all-weaken, all-and, all-only, map-ext}
 use Rattle.laws.proofs.Lists.Spans.{SameBut, but-drop}
-use Rattle.laws.proofs.Index.Items.{noFault}
+use Rattle.laws.proofs.Index.Items.{noFault, tidy}
 use Rattle.laws.proofs.Index.Slots.{slot-at, slot-first, slot-same, items-same}
 use Rattle.laws.proofs.Index.Ends.{endsGood, ends-good, ends-same}
 use Rattle.laws.proofs.Index.Runs.{Storable}
@@ -39,8 +41,10 @@ use Rattle.laws.proofs.Images.Inner.{inner-index, inner-between, inner-opens}
 use Rattle.laws.proofs.Images.Sizes.{block-same, sizes-long, sizes-between, sizes-drop, sizes-ends}
 use Rattle.laws.proofs.Images.Marker.{marker-written, marker-good}
 use Rattle.laws.proofs.Images.Placing.{newGeometry, Placed, run-place, unused-room, grown-index, Grown, place-grown, Sizes, new-sizes}
+use Rattle.laws.proofs.Images.Tidying.{settledVolume, opens-slotted, opens-settled, tidied-length, tidied-opens}
 use Rattle.after.proofs.Sights.{seen-same, extents-named}
-use Rattle.after.proofs.Create.Passed.{CreatePassed, create-passed}
+use Rattle.after.proofs.Tidied.{sight-tidied, unusables-tidied}
+use Rattle.after.proofs.Create.Passed.{Sited, create-passed, settled-sited}
 use Rattle.after.proofs.Create.Added.{Added, unused-added, front-added}
 use Rattle.after.proofs.Create.Made.{Made, new-made, kind-run, fresh-region, bytes-fit, blocks-fit, made-storable}
 use Rattle.after.proofs.Create.Seen.{regions-order, paths-order, seen-order, extents-order, seen-new}
@@ -50,34 +54,38 @@ bytes-block : (s : List ℕ) (g h : Geometry) (f : Entry) → blockLength h ≡ 
 unfolding fileBytes
 bytes-block s g h f e = rw e
 
-module _ (s : List ℕ) (v : Volume) (new : New) (path : List ℕ) (stamp : ℤ) (o : Opens s v) (c : CreatePassed s v new path stamp) where
+-- an image in which nothing is left over
+module _ (s : List ℕ) (v : Volume) (new : New) (path : List ℕ) (stamp : ℤ) (o : Opens s v) (neat : tidy (v .items)) (place : Place) (start : ℕ) (c : Sited (length s) v new path place start) where
   -- the geometry before, the blocks of the file, the geometry written, the site and the new entry
   abbrev g : Geometry
   g = v .geometry
+
+  abbrev ed : Edition
+  ed = g .edition
 
   abbrev blocks : ℕ
   blocks = newBlocks g new
 
   abbrev g′ : Geometry
-  g′ = newGeometry g (c .place .geometry) (c .start + blocks) stamp
+  g′ = newGeometry g (place .geometry) (start + blocks) stamp
 
   abbrev site : Site
-  site = siteOf v new path stamp (c .place) (c .start)
+  site = siteOf v new path stamp place start
 
   abbrev e : Entry
   e = newEntry site new path stamp
 
   -- ---- where all goes
-  placed : Placed (length s) v (newSlots new path) (c .place)
-  placed = run-place (length s) v (newSlots new path) (c .place) (c .run-placed)
+  placed : Placed (length s) v path (newSlots ed new path) place
+  placed = run-place (length s) v path (newSlots ed new path) place (c .run-placed)
 
-  grown : Grown (length s) g (c .place .geometry)
-  grown = place-grown (length s) v (newSlots new path) (c .place) (o .geometry-good) placed
+  grown : Grown (length s) g (place .geometry)
+  grown = place-grown (length s) v path (newSlots ed new path) place (o .geometry-good) placed
 
-  sizes : Sizes (length s) g (c .place .geometry) (c .start + blocks) g′
+  sizes : Sizes (length s) g (place .geometry) (start + blocks) g′
   sizes =
-      new-sizes (length s) g (c .place .geometry) (c .start + blocks) stamp grown
-      (place-fits (length s) (c .place .geometry) (entries v) blocks (c .start) (c .file-placed))
+      new-sizes (length s) g (place .geometry) (start + blocks) stamp grown
+      (place-fits (length s) (place .geometry) (entries v) blocks start (c .file-placed))
 
   block-kept : blockLength g′ ≡ blockLength g
   block-kept = block-same g g′ (sizes .same)
@@ -87,15 +95,18 @@ module _ (s : List ℕ) (v : Volume) (new : New) (path : List ℕ) (stamp : ℤ)
 
   fresh : Fresh g′ (entries v) e
   fresh =
-      new-fresh (length s) (c .place .geometry) site (entries v) new path stamp blocks refl needed (c .file-placed)
+      new-fresh (length s) (place .geometry) site (entries v) new path stamp blocks refl needed (c .file-placed)
       (sizes .same .reserved-same ∙ sym (grown .same .reserved-same)) (sizes .covers)
 
-  made : Made new path (c .place .slot) (c .start) blocks e
-  made = new-made v new path stamp (c .place) (c .start)
+  edition-kept : g′ .edition ≡ ed
+  edition-kept = sizes .same .edition-same
 
-  storable : Storable e
+  made : Made ed new path (place .slot) start blocks e
+  made = new-made v new path stamp place start
+
+  storable : Storable ed e
   storable =
-      made-storable (length s) g′ (sizes .good) (o .length-high) (entries v) new path (c .place .slot) (c .start) blocks e made (sizes .covers) needed fresh
+      made-storable (length s) g′ (sizes .good) (o .length-high) (entries v) ed new path (place .slot) start blocks e made (sizes .covers) needed fresh
       (new-path path (c .path-good) .0)
 
   ends : (endsGood s g ≡ true) × noFault (v .items)
@@ -126,31 +137,32 @@ module _ (s : List ℕ) (v : Volume) (new : New) (path : List ℕ) (stamp : ℤ)
 
   marked-ends : endsGood marked g′ ≡ true
   marked-ends =
-      marker-good sized g g′ (sizes .good .index-low) (omega (arith, sized-long, sizes .good .index-fits))
-      (sizes-ends s g g′ (o .geometry-good) g refl ∙ ends .0)
+      marker-good sized g g′ (sizes .good .index-low) (omega (arith, sized-long, sizes .good .index-fits)) edition-kept
+      (sizes-ends s g g′ (o .geometry-good) g refl refl ∙ ends .0)
 
   -- the slots behind the marker are as they were
-  marked-items : (k : Geometry) → k .indexBytes ≡ g .indexBytes → k .indexBytes ≤ g′ .indexBytes → itemsOf marked k ≡ v .items
-  marked-items k index low =
+  marked-items : (k : Geometry) → k .edition ≡ ed → k .indexBytes ≡ g .indexBytes → k .indexBytes ≤ g′ .indexBytes → itemsOf marked k ≡ v .items
+  marked-items k edition index low =
       let there : slotAt sized g′ 1 ≤ slotAt s g 1 = omega (arith, slot-at sized g′ 1, slot-at s g 1, sized-long) in
-      items-same s marked g k long index
+      items-same s marked g k long index edition
       (but-drop marks (slotAt s g 1) there ∙ sizes-drop s g g′ (o .geometry-good) (slotAt s g 1) (omega (arith, front, slot-at sized g′ 0, slot-at sized g′ 1)))
       ∙ sym (o .items-are)
 
   -- ---- the run
   abbrev indexed : List ℕ
-  indexed = splice marked (slotAt s g′ (e .slot)) (runBytes e)
+  indexed = splice marked (slotAt s g′ (e .slot)) (runBytes (g′ .edition) e)
 
-  added-by : Placed (length s) v (newSlots new path) (c .place) → Added marked (splice marked (slotAt marked g′ (e .slot)) (runBytes e)) g′ e (entries v)
+  added-by : Placed (length s) v path (newSlots ed new path) place → Added marked (splice marked (slotAt marked g′ (e .slot)) (runBytes (g′ .edition) e)) g′ e (entries v)
   unfolding newEntry
   added-by (inl a) =
       let index : g′ .indexBytes ≡ g .indexBytes = sizes .index-same ∙ ap (λ (h : Geometry). h .indexBytes) (a .geometry-is) in
-      unused-added marked g′ (v .items) e (rw long (sizes .good)) (marked-items g′ index (omega arith)) (ends .1) storable
-      (unused-room s v o (newSlots new path) (c .place .slot) (a .found))
+      unused-added marked g′ (v .items) e (rw long (sizes .good)) (marked-items g′ edition-kept index (omega arith)) neat (subst (λ (d : Edition). Storable d e) (sym edition-kept) storable)
+      (unused-room s v o path (newSlots ed new path) (place .slot) (a .found))
   added-by (inr a) =
-      let index : g′ .indexBytes ≡ g .indexBytes + slotBytes * newSlots new path =
-      sizes .index-same ∙ ap (λ (h : Geometry). h .indexBytes) (a .geometry-is) ∙ grown-index g (slotBytes * newSlots new path) in
-      front-added marked g g′ (v .items) e (o .geometry-good .index-low) (omega (arith, long, sizes .good .index-fits)) (marked-items g refl (omega arith)) (ends .1) storable (a .slot-is) index
+      let index : g′ .indexBytes ≡ g .indexBytes + slotBytes * newSlots ed new path =
+      sizes .index-same ∙ ap (λ (h : Geometry). h .indexBytes) (a .geometry-is) ∙ grown-index g (slotBytes * newSlots ed new path) in
+      subst (λ (d : Edition). Added marked (splice marked (slotAt marked g′ (e .slot)) (runBytes d e)) g′ e (entries v)) (sym edition-kept)
+      (front-added marked g g′ (v .items) e edition-kept (o .geometry-good .index-low) (omega (arith, long, sizes .good .index-fits)) (marked-items g refl refl (omega arith)) (ends .1) storable (a .slot-is) index)
 
   added : Added marked indexed g′ e (entries v)
   added = rw (slot-same s marked g′ g′ long refl (e .slot)) at (added-by placed)
@@ -171,8 +183,8 @@ module _ (s : List ℕ) (v : Volume) (new : New) (path : List ℕ) (stamp : ℤ)
   indexed-opens =
       opens-judge indexed volume
       (inner-opens marked indexed (asStored g′) (marked-super .geometry-good) (inner-index marked indexed g′ (asStored g′) (stored-index g′) (added .inner)) (itemsOf indexed g′) marked-super
-      (ends-same marked marked g′ (asStored g′) refl (stored-index g′) refl refl ∙ marked-ends)
-      (items-same indexed indexed g′ (asStored g′) refl (stored-index g′) refl)
+      (ends-same marked marked g′ (asStored g′) refl (stored-edition g′) (stored-index g′) refl refl ∙ marked-ends)
+      (items-same indexed indexed g′ (asStored g′) refl (stored-index g′) (stored-edition g′) refl)
       (added .sound)
       (regions-order (entries volume) (e ∷ entries v) (added .order) (asStored g′) ∙ sound-stored g′ (e ∷ entries v) ∙ regions-good)
       (paths-order (entries volume) (e ∷ entries v) (added .order) ∙ paths-good))
@@ -185,7 +197,7 @@ module _ (s : List ℕ) (v : Volume) (new : New) (path : List ℕ) (stamp : ℤ)
   block-stored = stored-block g′ ∙ block-kept
 
   bytes-room : length (bytesOf new) ≤ blocksOf e * blockLength g′
-  bytes-room = bytes-fit (length s) g′ (sizes .good) (o .length-high) (entries v) new path (c .place .slot) (c .start) blocks e made (sizes .covers) needed fresh
+  bytes-room = bytes-fit (length s) g′ (sizes .good) (o .length-high) (entries v) ed new path (place .slot) start blocks e made (sizes .covers) needed fresh
 
   kept : RegionKept indexed t volume e
   unfolding created newEntry blocksOf
@@ -217,14 +229,14 @@ module _ (s : List ℕ) (v : Volume) (new : New) (path : List ℕ) (stamp : ℤ)
   own-bytes =
       rw (stored-block g′)
       (padded-back indexed (e .start * blockLength g′) (bytesOf new) (blocksOf e * blockLength g′) bytes-room
-      (omega (arith, long, added .inner .long, blocks-fit (length s) g′ (sizes .good) (o .length-high) (entries v) new path (c .place .slot) (c .start) blocks e made (sizes .covers) needed fresh)))
+      (omega (arith, long, added .inner .long, blocks-fit (length s) g′ (sizes .good) (o .length-high) (entries v) ed new path (place .slot) start blocks e made (sizes .covers) needed fresh)))
 
   named : isNamed e ≡ true
   unfolding newEntry isNamed
   named = kind-run new
 
   own : seen t (asStored g′) e ≡ keptOf (blockLength g) new path
-  own = seen-new t (asStored g′) e new path (c .place .slot) (c .start) blocks made own-bytes (blockLength g) refl
+  own = seen-new t (asStored g′) e ed new path (place .slot) start blocks made own-bytes (blockLength g) refl
 
   agree : Perm (sight t volume) (keptOf (blockLength g) new path ∷ sight s v)
   unfolding sight
@@ -239,12 +251,15 @@ module _ (s : List ℕ) (v : Volume) (new : New) (path : List ℕ) (stamp : ℤ)
   unfolding unusables newEntry
   unusable = rw (extents-named e (entries v) (kind-run new)) at (extents-order (entries volume) (e ∷ entries v) (added .order))
 
-  left : Left t (blockLength g) (keptOf (blockLength g) new path ∷ sight s v) (unusables v)
-  left = record { volume = volume; opens = kept .opens; blocks = block-stored; agree = agree; unusable = unusable }
+  left : Left t ed (blockLength g) (keptOf (blockLength g) new path ∷ sight s v) (unusables v)
+  left = record { volume = volume; opens = kept .opens; edition = stored-edition g′ ∙ edition-kept; blocks = block-stored; agree = agree; unusable = unusable }
 
--- THE THEOREM
+-- THE THEOREM: by the image that is tidied first
 pub create-left : AfterCreate
 create-left s v new path stamp j r =
     let o = judge-opens s v j in
     let c = create-passed s v new path stamp j r in
-    rw (c .image-is) (left s v new path stamp o c)
+    let d : Sited (length (tidyImage s v)) (settledVolume v) new path (c .place) (c .start) =
+    rw (tidied-length s v o) (settled-sited (length s) v new path (c .place) (c .start) (opens-slotted s v o) (c .sited)) in
+    rw (c .image-is, ← sight-tidied s v o, ← unusables-tidied v)
+    (left (tidyImage s v) (settledVolume v) new path stamp (tidied-opens s v o) (opens-settled s v o) (c .place) (c .start) d)

@@ -6,6 +6,7 @@ use mathlib.Core.List.{List, map}
 use native.Mathlib.Omega.{arith}
 use lib.ListN.{length}
 use Rattle.rules.specs.Lists.{pick, only, Perm}
+use Rattle.rules.specs.Editions.{Edition}
 use Rattle.rules.specs.SuperBlock.{Geometry}
 use Rattle.rules.specs.Index.{Entry, fileType, liveType}
 use Rattle.rules.specs.Regions.{blocksOf, blocksNeeded, regionsSound}
@@ -54,11 +55,11 @@ unfolding kindOf liveKind fileType liveType pick
 new-kind (newFile bytes) = (refl, refl)
 new-kind newDirectory = (refl, refl)
 
-pub seen-new : (t : List ℕ) (w : Geometry) (e : Entry) (n : New) (path : List ℕ) (slot start blocks : ℕ) → Made n path slot start blocks e
+pub seen-new : (t : List ℕ) (w : Geometry) (e : Entry) (ed : Edition) (n : New) (path : List ℕ) (slot start blocks : ℕ) → Made ed n path slot start blocks e
     → fileBytes t w e ≡ bytesOf n → (block : ℕ) → blocks ≡ blocksNeeded block (length (bytesOf n))
     → seen t w e ≡ keptOf block n path
 unfolding seen keptOf isLive blocksOf
-seen-new t w e n path slot start blocks m bytes-are block q =
+seen-new t w e ed n path slot start blocks m bytes-are block q =
     let k = new-kind n in
     let kind-is : liveKind (e .kind) ≡ kindOf n = ap liveKind (m .kind-is) ∙ k .0 in
     let blocks-are : e .end - e .start ≡ blocksNeeded block (length (bytesOf n)) = omega (arith, m .start-is, m .end-is) in

@@ -14,12 +14,9 @@ use Rattle.rules.specs.Regions.{regionsSound}
 use Rattle.rules.specs.Paths.{isLive, isDeleted}
 use Rattle.after.specs.After.{isNamed, seen}
 use Rattle.laws.proofs.Lists.Parts.{only-only, only-ext, only-map}
-use Rattle.laws.proofs.Lists.Every.{map-ext, all-weaken, all-and, all-only}
-use Rattle.laws.proofs.Entries.Regions.{sound-says}
 use Rattle.laws.proofs.Entries.Walked.{Bare}
 use Rattle.laws.proofs.Images.Kept.{Between}
-use Rattle.laws.proofs.Images.Areas.{bytes-kept}
-use Rattle.after.proofs.Sights.{seen-same}
+use Rattle.after.proofs.Sights.{seen-part}
 
 -- ---- a file or directory that is not deleted is live
 neither : (a b : Bool) → ((a || false) || (b || false)) ≡ (((a || false) || (b || false)) && (a || b))
@@ -48,7 +45,6 @@ module _ (s t : List ℕ) (g h : Geometry) (good : GoodGeometry (length s) g) (s
       → map (seen t h) (only isNamed (only (λ e. not (isDeleted e)) es)) ≡ only (λ k. k .live) (map (seen s g) (only isNamed es))
   unfolding seen
   all-kept es b r =
-      let each = all-weaken _ (λ e. seen t h e ≡ seen s g e) (λ e p. seen-same s t g h e (bytes-kept s t g h e good same block (p .0) (p .1))) es (all-and Bare _ es b (sound-says g es r .each)) in
-      ap (map (seen t h)) (live-named es)
-      ∙ map-ext (seen t h) (seen s g) (only isLive (only isNamed es)) (all-only _ isLive (only isNamed es) (all-only _ isNamed es each))
+      seen-part s t g h good same block (λ e. not (isDeleted e)) es b r
+      ∙ ap (map (seen s g)) (live-named es)
       ∙ sym (only-map (λ k. k .live) (seen s g) (only isNamed es))

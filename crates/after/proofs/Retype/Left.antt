@@ -1,4 +1,4 @@
--- One entry's type and stamp are written anew: the image opens, where the paths are sound, and the history sees what it saw but whether the
+-- One entry's type and stamp are written anew, where deleted entries are kept: the image opens, where the paths are sound, and the history sees what it saw but whether the
 -- entry is live.
 use Prim.Native.Nat.{ℕ}
 use mathlib.Core.Path.{_≡_, refl, sym, ap, _∙_}
@@ -6,6 +6,7 @@ use mathlib.Core.Bool.{Bool, true, false}
 use mathlib.Core.List.{List, [], _∷_, _++_, map}
 use lib.IntN.{ℤ}
 use Rattle.rules.specs.Lists.{all, All}
+use Rattle.rules.specs.Editions.{keepsDeleted}
 use Rattle.rules.specs.SuperBlock.{blockLength}
 use Rattle.rules.specs.SuperBlock.Laws.{storedStamp}
 use Rattle.rules.specs.Index.{Entry, Item, entry, itemsOf, entriesOf, slotAt, isFault, retyped}
@@ -28,7 +29,7 @@ use Rattle.after.proofs.Sights.{extentsOf, extents-map}
 use Rattle.after.proofs.Retype.Seeing.{all-seen}
 
 -- the entry that changes, the only one that passes the test
-module _ (s : List ℕ) (v : Volume) (o : Opens s v) (p : Entry → Bool) (kinds : ℕ → ℕ) (r : Retypes p kinds) (stamp : ℤ) (it : Entry)
+module _ (s : List ℕ) (v : Volume) (o : Opens s v) (keeps : keepsDeleted (v .geometry .edition) ≡ true) (p : Entry → Bool) (kinds : ℕ → ℕ) (r : Retypes p kinds) (stamp : ℤ) (it : Entry)
     (place : Found p (v .items) it) where
   pub entries-before : entries v ≡ entriesOf (place .pre) ++ (it ∷ entriesOf (place .post))
   unfolding entriesOf
@@ -55,7 +56,7 @@ module _ (s : List ℕ) (v : Volume) (o : Opens s v) (p : Entry → Bool) (kinds
 
   -- ---- the image that is left
   abbrev pub image : List ℕ
-  image = retyped s (slotAt s (v .geometry) (it .slot)) (kinds (it .kind)) stamp
+  image = retyped (v .geometry .edition) s (slotAt s (v .geometry) (it .slot)) (kinds (it .kind)) stamp
 
   abbrev pub volume : Volume
   volume = record { geometry = v .geometry; items = after }
@@ -75,7 +76,7 @@ module _ (s : List ℕ) (v : Volume) (o : Opens s v) (p : Entry → Bool) (kinds
       pub opens : Opens image volume
       opens =
           inner-opens s image (v .geometry) (o .geometry-good) inner after (opens-super s v o) (ends-good s (v .geometry) (v .items) (o .index-sound) .0)
-          (retyped-items s (v .geometry) (o .geometry-good) (place .pre) it (place .post) here (kinds (it .kind)) stamp
+          (retyped-items s (v .geometry) (o .geometry-good) (place .pre) it (place .post) here (kinds (it .kind)) stamp keeps
           (r .named it (place .passes)) (r .run (it .kind)) (r .file (it .kind)))
           sound-after
           (rw entries-map (retype-regions p kinds (storedStamp stamp) r (v .geometry) (entries v) ∙ o .regions-sound))
@@ -87,11 +88,12 @@ module _ (s : List ℕ) (v : Volume) (o : Opens s v) (p : Entry → Bool) (kinds
 
       pub retype-left : (live : Kept → Bool)
           → All (λ e. isNamed e ≡ true → isLive (retypeAt p kinds (storedStamp stamp) e) ≡ live (seen s (v .geometry) e)) (entries v)
-          → Left image (blockLength (v .geometry)) (map (λ k. withLive k (live k)) (sight s v)) (unusables v)
+          → Left image (v .geometry .edition) (blockLength (v .geometry)) (map (λ k. withLive k (live k)) (sight s v)) (unusables v)
       unfolding sight
       retype-left live l = record {
         volume = volume;
         opens = opens-judge image volume opens;
+        edition = refl;
         blocks = refl;
         agree =
             perm-of _ _

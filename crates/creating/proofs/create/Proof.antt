@@ -1,50 +1,39 @@
-use mathlib.Core.Path.{sym, ap, _∙_}
+use mathlib.Core.Path.{sym}
 use Rattle.rules.specs.Outcome.{done}
-use Rattle.rules.specs.Writing.Laws.{wrote}
-use Rattle.creating.specs.Plans.{plan-refused, plan-at}
+use Rattle.creating.specs.Plans.{plan-refused, plan-sound, plan-fits, plan-done}
 use borrow.Author.Needs.{needs}
 use Rattle.creating.proofs.create.Statement.{statement}
 use Rattle.creating.proofs.create.Tie as tie
 
-plan-create-requires : tie.Need-plan-create-requires
-plan-create-requires c κs = search needs
-
-enum-known-n : tie.Need-enum-known-n
-enum-known-n c = search needs
-
-cast-result : tie.Need-cast-result
-cast-result c = search needs
-
-enum-known-p : tie.Need-enum-known-p
-enum-known-p c = search needs
+tidy-requires : tie.Need-tidy-requires
+tidy-requires c κs = let p = c .before .before in plan-sound _ _ _ _ _ (p .before .before .plan-create .ensures) _ (p .p .given .1)
 
 place-requires : tie.Need-place-requires
-place-requires c κs = plan-at _ _ _ _ _ (c .before .before .before .before .plan-create .ensures) _ (c .before .before .p .given .1) .1
-
-same-length : tie.Need-same-length
-same-length c = search needs
+place-requires c κs = let d = c .before .before .before in
+    let p = d .before .before .before in
+    plan-fits _ _ _ _ _ (p .before .before .plan-create .ensures) _ (p .p .given .1) _ (d .tidy .ensures)
 
 returns : tie.Need-returns
 returns c = sym (plan-refused _ _ _ _ _ (c .before .before .before .plan-create .ensures) _ (c .before .n .given .1))
 
-same-length-2 : tie.Need-same-length-2
-same-length-2 c = search needs
-
 returns-2 : tie.Need-returns-2
 unfolding done
-returns-2 c = let p = c .before .before .before .before .before in
-    ap wrote (c .before .before .place .ensures) ∙ sym (plan-at _ _ _ _ _ (p .before .before .plan-create .ensures) _ (p .p .given .1) .0)
+returns-2 c = let w = c .before .before in
+    let d = w .before .before .before .before in
+    let p = d .before .before .before in
+    plan-done _ _ _ _ _ (p .before .before .plan-create .ensures) _ (p .p .given .1) _ _ (d .tidy .ensures) (w .place .ensures)
 
 pub create-spec : {M : Type 1} → statement M
 create-spec =
     tie.close
     (tie.spec
-    plan-create-requires
-    enum-known-n
-    cast-result
-    enum-known-p
+    (λ c κs. search needs)
+    (λ c. search needs)
+    (λ c. search needs)
+    (λ c. search needs)
+    tidy-requires
     place-requires
-    same-length
+    (λ c. search needs)
     returns
-    same-length-2
+    (λ c. search needs)
     returns-2)

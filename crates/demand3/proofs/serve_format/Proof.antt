@@ -16,7 +16,7 @@ same-length c = search needs
 returns : tie.Need-returns
 returns c =
     let a = c .before .before .before .before .before .before in
-    (_, _, c .before .before .sfs-format .ensures ∙ ap (formatOf (now (a .args .image)) (a .args .bytes-per-block) (a .args .reserved) (now (a .args .name))) (toZ-ofZ w64 (a .args .stamp) (a .fits .stamp)), refl)
+    (_, _, c .before .before .sfs-format .ensures ∙ ap (formatOf (now (a .args .image)) (a .args .version) (a .args .bytes-per-block) (a .args .reserved) (now (a .args .name))) (toZ-ofZ w64 (a .args .stamp) (a .fits .stamp)), refl)
 
 pub serve-format-spec : {M : Type 1} → statement M
 serve-format-spec = tie.close (tie.spec sfs-format-requires same-length returns)

@@ -4,18 +4,11 @@ use borrow.Author.Needs.{needs}
 use Rattle.ends.proofs.are_good.Statement.{statement}
 use Rattle.ends.proofs.are_good.Tie as tie
 
-marker-good-requires : tie.Need-marker-good-requires
-marker-good-requires c κs = search needs
-
 returns : tie.Need-returns
 returns c = rw (sym (c .before .marker-good .ensures) ∙ not-true _ (c .if1 .taken))
-
-identifier-good-requires : tie.Need-identifier-good-requires
-identifier-good-requires c κs = search needs
 
 returns-2 : tie.Need-returns-2
 returns-2 c = rw (sym (c .before .before .marker-good .ensures) ∙ not-false _ (c .before .if1 .left)) (c .identifier-good .ensures)
 
 pub are-good-spec : {M : Type 1} → statement M
-are-good-spec =
-    tie.close (tie.spec marker-good-requires returns identifier-good-requires returns-2)
+are-good-spec = tie.close (tie.spec (λ c κs. search needs) returns (λ c κs. search needs) returns-2)

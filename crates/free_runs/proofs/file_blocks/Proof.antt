@@ -14,7 +14,9 @@ returns c s = rw (sym (c .before .is-file .ensures) ∙ not-true _ (c .if1 .take
 
 returns-2 : tie.Need-returns-2
 unfolding fileBlocks headView blocksOf pick
-returns-2 c s = rw (sym (c .before .before .is-file .ensures) ∙ not-false _ (c .before .if1 .left)) (c .blocks-past .ensures)
+returns-2 c s =
+    let p = c .before in
+    rw (sym (p .before .before .is-file .ensures) ∙ not-false _ (p .before .if1 .left), ← p .past-end .ensures s) (c .blocks-past .ensures)
 
 pub file-blocks-spec : {M : Type 1} → statement M
-file-blocks-spec = tie.close (tie.spec (λ c κs. search needs) returns (λ c κs. search needs) returns-2)
+file-blocks-spec = tie.close (tie.spec (λ c κs. search needs) returns (λ c κs. search needs) (λ c κs. search needs) returns-2)

@@ -13,7 +13,7 @@ returns c s = rw (sym (c .before .before .is-deleted .ensures) ∙ c .before .if
 
 returns-2 : tie.Need-returns-2
 unfolding keptEnd isDeleted headView pick
-returns-2 c s = rw (sym (c .before .before .is-deleted .ensures) ∙ c .before .if1 .left)
+returns-2 c s = rw (sym (c .before .before .is-deleted .ensures) ∙ c .before .if1 .left) (c .past-end .ensures s)
 
 pub kept-end-spec : {M : Type 1} → statement M
-kept-end-spec = tie.close (tie.spec (λ c κs. search needs) (λ c κs. search needs) returns returns-2)
+kept-end-spec = tie.close (tie.spec (λ c κs. search needs) (λ c κs. search needs) returns (λ c κs. search needs) returns-2)

@@ -3,37 +3,45 @@ use Prim.Native.Nat.{max}
 use mathlib.Core.Path.{_≡_}
 use native.Mathlib.Omega.{arith}
 use denote.Ref.{now}
+use Rattle.rules.specs.Lists.{All}
 use Rattle.rules.specs.Writing.{undeleted, leastEnd}
-use Rattle.index.specs.Steps.{Walks, Step, entriesFrom}
+use Rattle.slots.specs.View.{headView}
+use Rattle.ordering.specs.Regions.{Small}
+use Rattle.index.specs.View.{SumsFrom}
+use Rattle.index.specs.Steps.{Walks, Step, entriesFrom, sums-step}
 use Rattle.index.specs.Turns.{told-end, told-found}
-use Rattle.free_runs.specs.Sums.{least-end, least-next}
+use Rattle.free_runs.specs.Sums.{least-end, least-next, small-stored, small-next}
 use borrow.Author.Needs.{needs}
 use Rattle.free_runs.proofs.last_end.Statement.{statement}
 use Rattle.free_runs.proofs.last_end.Tie as tie
 
 abbrev Inv-loop : tie.InvT-loop
-Inv-loop img c₀ last₀ c last = Walks img c × (max (last .0) (leastEnd (undeleted (entriesFrom img c))) ≡ leastEnd (undeleted (entriesFrom img c₀)))
+Inv-loop img sums c₀ last₀ c last = Walks img c × All Small (entriesFrom img c) × (max (last .0) (leastEnd (undeleted (entriesFrom img c))) ≡ leastEnd (undeleted (entriesFrom img c₀))) × SumsFrom img sums c
 
 abbrev μ-loop : tie.MeasureT-loop
-μ-loop img c₀ last₀ c last = c .left
+μ-loop img sums c₀ last₀ c last = c .left
 
 loop-holds : tie.Need-loop-holds Inv-loop μ-loop
-loop-holds c = (c .before .before .pre, omega (arith, c .at .ensures))
+loop-holds c = let p = c .before .before .before .pre in (p .0, p .1, omega (arith, c .at .ensures), p .2)
 
 returns : tie.Need-returns Inv-loop μ-loop
 returns c =
     let n = c .before .before in
-    omega (arith, least-end _ (told-end _ _ _ (n .next-entry .ensures) (c .enum-told .given .1)), n .before .loop .inv .1)
+    omega (arith, least-end _ (told-end _ _ _ (n .next-entry .ensures) (c .enum-told .given .1)), n .before .loop .inv .2)
 
 step : (c : tie.After-e Inv-loop μ-loop) → let l = c .before .before .before in
-    Step (now (l .before .before .before .args .img)) (l .loop .c) (c .e .given .0 .0) (c .e .given .0 .1 .0)
+    Step (now (l .before .before .before .before .args .img)) (l .loop .c) (c .e .given .0 .0) (c .e .given .0 .1 .0)
 step c = told-found _ _ _ (c .before .before .next-entry .ensures) _ _ (c .e .given .1)
+
+small : (c : tie.After-e Inv-loop μ-loop) → let s = now (c .before .before .before .before .before .before .before .args .img) in
+    Small (headView s (c .e .given .0 .0)) × All Small (entriesFrom s (c .e .given .0 .1 .0))
+small c = small-next _ _ _ (step c .entries) (c .before .before .before .loop .inv .1)
 
 loop-again : tie.Need-loop-again Inv-loop μ-loop
 loop-again c =
     let e = c .before .before .before in
     let l = e .before .before .before in
-    (step e .walks, omega (arith, least-next _ _ _ (step e .entries), c .later .ensures, c .before .kept-end .ensures (now (l .before .before .before .args .img)), l .loop .inv .1))
+    (step e .walks, small e .1, omega (arith, least-next _ _ _ (step e .entries), c .later .ensures, c .before .kept-end .ensures (now (l .before .before .before .before .args .img)), l .loop .inv .2), sums-step _ _ (l .loop .c) (l .loop .inv .3) _ _ (step e))
 
 pub last-end-spec : {M : Type 1} → statement M
 last-end-spec =
@@ -43,11 +51,11 @@ last-end-spec =
     μ-loop
     (λ c κs. search needs)
     loop-holds
-    (λ c κs. c .loop .inv .0)
+    (λ c κs. (c .loop .inv .0, c .loop .inv .3))
     (λ c. search needs)
     returns
     (λ c. search needs)
-    (λ c κs. search needs)
+    (λ c κs. small-stored _ _ (small (c .before) .0))
     (λ c κs. search needs)
     (λ c. step (c .before .before .before) .less)
     loop-again)

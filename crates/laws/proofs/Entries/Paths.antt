@@ -1,4 +1,4 @@
--- Sound paths stay sound: in another order, with one live entry more, with one deleted, with one restored, and without the deleted ones. Assumes nothing.
+-- Sound paths stay sound: in another order, with one live entry more, with one deleted or struck, with one restored, and without the deleted ones. Assumes nothing.
 use Prim.Native.Nat.{ℕ}
 use mathlib.Core.Path.{_≡_, refl, sym, ap, ap₂, subst, _∙_}
 use mathlib.Core.Bool.{Bool, true, false, _&&_, _||_, not}
@@ -272,6 +272,10 @@ still path f k e a = go (liveAt path e) refl
 still-live : (path : List ℕ) (f : Entry → Entry) → TakesAway path f → (e : Entry) → isLive (f e) ≡ true → isLive e ≡ true
 still-live path f k e a = sym (live-same e (f e) (still path f k e a)) ∙ a
 
+-- an entry of another path
+not-at : (path d : List ℕ) (e : Entry) → eqList path d ≡ false → e .path ≡ d → liveAt path e ≡ false
+not-at path d e n p = is-false (liveAt path e) (λ a. not-both (eqList path d) (ap (λ q. eqList q d) (sym (liveAt-says path e a .1) ∙ p) ∙ eqList-refl d) n)
+
 -- a live directory of another path stays
 directory-stays : (path : List ℕ) (f : Entry → Entry) → TakesAway path f → (es : List Entry) (d : List ℕ) → eqList path d ≡ false → directoryLive es d ≡ true
     → directoryLive (map f es) d ≡ true
@@ -280,10 +284,7 @@ directory-stays path f k es d n l =
     any-map (isDirectoryAt d) f es ∙ any-weaken (isDirectoryAt d) (λ e. isDirectoryAt d (f e)) es (all-of _ go es) l
   where
     go : (e : Entry) → isDirectoryAt d e ≡ true → isDirectoryAt d (f e) ≡ true
-    go e t =
-        let p = directory-live d e t .1 in
-        let o : liveAt path e ≡ false = is-false (liveAt path e) (λ a. not-both (eqList path d) (ap (λ q. eqList q d) (sym (liveAt-says path e a .1) ∙ p) ∙ eqList-refl d) n) in
-        directory-same d e (f e) (k .others e o) ∙ t
+    go e t = directory-same d e (f e) (k .others e (not-at path d e n (directory-live d e t .1))) ∙ t
 
 -- where all directories are live, the nearest is
 all-nearest : (es : List Entry) (p : List ℕ) → DirectoriesLive es p → nearestLive es (leading p) ≡ true
@@ -334,3 +335,23 @@ paths-delete path f es k b h =
     one e q a =
         let l = still-live path f k e a in
         subst (DirectoriesLive (map f es)) (sym (still path f k e a .path)) (directories-stay path f es k e l (q .0) (q .1 l))
+
+-- ---- a live entry struck: the others are as they were
+pub paths-strike : (path : List ℕ) (es : List Entry) → anyBelow path es ≡ false → pathsSound es ≡ true → pathsSound (only (λ e. not (liveAt path e)) es) ≡ true
+unfolding anyBelow directoryLive
+paths-strike path es b h =
+    let g = paths-says es h in
+    paths-holds (only (λ e. not (liveAt path e)) es) (record {
+      differ = pairs-only Differ (λ e. not (liveAt path e)) es (g .differ);
+      directories = all-only _ (λ e. not (liveAt path e)) es (all-weaken _ _ one es (all-and _ _ es (none-passes _ es b) (g .directories)));
+    })
+  where
+    stays : (d : List ℕ) → eqList path d ≡ false → directoryLive es d ≡ true → directoryLive (only (λ e. not (liveAt path e)) es) d ≡ true
+    stays d n l =
+        any-only (isDirectoryAt d) (λ e. not (liveAt path e)) es
+        ∙ any-weaken (isDirectoryAt d) (λ e. not (liveAt path e) && isDirectoryAt d e) es
+        (all-of _ (λ e t. and-both (not (liveAt path e)) (isDirectoryAt d e) (ap not (not-at path d e n (directory-live d e t .1))) t) es) l
+
+    one : (e : Entry) → ((isLive e && isBelow path (e .path)) ≡ false) × (isLive e ≡ true → DirectoriesLive es (e .path)) → isLive e ≡ true
+        → DirectoriesLive (only (λ e. not (liveAt path e)) es) (e .path)
+    one e q a = all-weaken _ _ (λ d r. stays d (r .0) (r .1)) (leading (e .path)) (all-and _ _ (leading (e .path)) (not-above path e (q .0) a) (q .1 a))

@@ -9,7 +9,7 @@ use native.Mathlib.Nat.{add-mul}
 use lib.Dec.{eqb, ltb, leb}
 use lib.IntN.{ℤ}
 use borrow.Author.Tests.{leb-true, ltb-true, le-leb, lt-ltb, eqb-true, eq-eqb}
-use Rattle.rules.specs.Lists.{pick, all, everyTwo, All, Pairs, Perm}
+use Rattle.rules.specs.Lists.{pick, all, everyTwo, only, All, Pairs, Perm}
 use Rattle.rules.specs.Lists.Laws.{and-true, and-both, or-right, pick-true, pick-false}
 use Rattle.rules.specs.SuperBlock.{Geometry, blockLength, dataEnd, extendData, trimData, restamp, withData, withStamp}
 use Rattle.rules.specs.SuperBlock.Laws.{asStored}
@@ -293,6 +293,12 @@ sound-reclaim g es o =
           (all-and _ _ kept (le-largest (λ e. e .end) kept) (all-only _ (λ e. not (isDeleted e)) es (p .each)));
       two = pairs-only (λ e f. apart e f ≡ true) (λ e. not (isDeleted e)) es (p .two);
     })
+
+-- some of the entries
+pub sound-only : (g : Geometry) (q : Entry → Bool) (es : List Entry) → regionsSound g es ≡ true → regionsSound g (only q es) ≡ true
+sound-only g q es o =
+    let p = sound-says g es o in
+    sound-holds g (only q es) (record { each = all-only _ q es (p .each); two = pairs-only (λ e f. apart e f ≡ true) q es (p .two) })
 
 -- the geometry stays good: the data area does not grow
 end-fits : (g : Geometry) (e : Entry) → Regionless e ⊎ Within g e → e .end ≤ dataEnd g

@@ -6,10 +6,10 @@ use mathlib.Core.List.{List, []}
 use mathlib.Core.Option.{Option, none, some}
 use native.Mathlib.Omega.{arith}
 use Rattle.rules.specs.SuperBlock.{writable}
-use Rattle.rules.specs.Refusals.{Verdict, refused, accepted, need, needFound, andThen, Volume, judgeIndex, judgeGeometry, judge}
+use Rattle.rules.specs.Refusals.{Verdict, refused, accepted, need, needFound, andThen, Volume, judgeIndex, judgeSuper, judgeGeometry, judge}
 use Rattle.rules.specs.Refusals.Laws.{then-next}
 use Rattle.rules.specs.Outcome.{done, conclude, onVolume}
-use Rattle.rules.specs.Writing.{Written, onWritable}
+use Rattle.rules.specs.Writing.{Written}
 
 -- ---- the refusals of opening have one digit, and none is 0
 abbrev pub Low : {A : Type 0} → Verdict A → Type 0
@@ -21,18 +21,23 @@ unfolding need
 need-low true n v h l = l
 need-low false n v h l = h
 
+found-low : {A B : Type 0} (o : Option B) (n : ℕ) (next : B → Verdict A) → (0 < n) × (n < 10) → ((x : B) → Low (next x)) → Low (needFound o n next)
+unfolding needFound
+found-low none n next h l = h
+found-low (some x) n next h l = l x
+
 then-low : {A B : Type 0} (v : Verdict A) (next : A → Verdict B) → Low v → ((x : A) → Low (next x)) → Low (andThen v next)
 unfolding andThen
 then-low (refused n) next l r = l
 then-low (accepted x) next l r = r x
 
 pub judge-low : (s : List ℕ) → Low (judge s)
-unfolding judge judgeGeometry judgeIndex
+unfolding judge judgeGeometry judgeSuper judgeIndex
 judge-low s =
     then-low _ _
     (need-low _ 1 _ (omega arith, omega arith)
-    (need-low _ 2 _ (omega arith, omega arith)
-    (need-low _ 3 _ (omega arith, omega arith)
+    (found-low _ 2 _ (omega arith, omega arith)
+    (λ ed. need-low _ 3 _ (omega arith, omega arith)
     (need-low _ 4 _ (omega arith, omega arith)
     (need-low _ 5 _ (omega arith, omega arith) tt)))))
     (λ g.
@@ -57,24 +62,28 @@ module _ (s : List ℕ) (w : Written) (success : w .refusal ≡ 0) where
   passed-found none n next p e = let z : n ≡ 0 = sym (ap (λ (o : Written). o .refusal) e) ∙ success in absurd (omega arith)
   passed-found (some y) n next p e = (y, refl, e)
 
--- the image opens as v, and its version may be written
-module _ (s : List ℕ) (v : Volume) (call : Volume → Verdict Written) (o : judge s ≡ accepted v) (z : onWritable s call .refusal ≡ 0) where
-  passed-nine : (writable (v .geometry) ≡ true) × (onWritable s call ≡ ending s (call v))
+-- a call that may write goes on where the image opens and its version may be written; `onWritable` is this, with the tidied image
+abbrev pub writing : List ℕ → (Volume → Verdict Written) → Written
+writing s next = onVolume tt s [] (λ u. need (writable (u .geometry)) 9 (next u))
+
+-- the image opens as v, its version may be written, and the call went on
+module _ (s : List ℕ) (v : Volume) (next : Volume → Verdict Written) (o : judge s ≡ accepted v) (z : writing s next .refusal ≡ 0) where
+  passed-nine : (writable (v .geometry) ≡ true) × (writing s next ≡ ending s (next v))
   unfolding onVolume
   passed-nine =
-      let next : Volume → Verdict Written = λ u. need (writable (u .geometry)) 9 (call u) in
-      passed-need s (onWritable s call) z (writable (v .geometry)) 9 (call v) (omega arith) (ap (ending s) (then-next next o))
+      let step : Volume → Verdict Written = λ u. need (writable (u .geometry)) 9 (next u) in
+      passed-need s (writing s next) z (writable (v .geometry)) 9 (next v) (omega arith) (ap (ending s) (then-next step o))
 
   pub passed-may : writable (v .geometry) ≡ true
   passed-may = passed-nine .0
 
-  pub passed-writable : onWritable s call ≡ ending s (call v)
+  pub passed-writable : writing s next ≡ ending s (next v)
   passed-writable = passed-nine .1
 
 -- so where a call answered 0 the image opens
-pub passed-opens : (s : List ℕ) (call : Volume → Verdict Written) → onWritable s call .refusal ≡ 0 → (v : Volume) × (judge s ≡ accepted v)
+pub passed-opens : (s : List ℕ) (next : Volume → Verdict Written) → writing s next .refusal ≡ 0 → (v : Volume) × (judge s ≡ accepted v)
 unfolding onVolume andThen conclude
-passed-opens s call z = by (judge s) refl (judge-low s)
+passed-opens s next z = by (judge s) refl (judge-low s)
   where
     by : (r : Verdict Volume) → judge s ≡ r → Low r → (v : Volume) × (judge s ≡ accepted v)
     by (refused n) e l = let q : n ≡ 0 = rw e at z in absurd (omega arith)

@@ -10,11 +10,11 @@ use lib.IntN.{ℤ}
 use Rattle.rules.specs.Fields.{splice}
 use Rattle.rules.specs.SuperBlock.{Geometry}
 use Rattle.rules.specs.SuperBlock.Laws.{GoodGeometry}
-use Rattle.rules.specs.Index.{Item, itemsOf, entriesOf, identifierAt, slotAt, retyped}
+use Rattle.rules.specs.Index.{Item, itemsOf, entriesOf, identifierAt, slotAt, slotBytes, stampAt, retyped}
 use Rattle.rules.specs.Regions.{regionsSound}
 use Rattle.rules.specs.Paths.{pathsSound}
 use Rattle.rules.specs.Refusals.Laws.{GoodSuper, Opens, super-opens}
-use Rattle.laws.proofs.Lists.Spans.{SameBut, but-splice, but-wider, but-then, but-byte}
+use Rattle.laws.proofs.Lists.Spans.{SameBut, but-splice, but-wider, but-then, but-part}
 use Rattle.laws.proofs.Index.Items.{noFault}
 use Rattle.laws.proofs.Index.Slots.{slot-at, slot-same, identifier-at}
 use Rattle.laws.proofs.Index.Ends.{endsGood, good-ends, ends-same}
@@ -40,8 +40,8 @@ module _ (s : List ℕ) (g : Geometry) (at : ℕ) (low : slotAt s g 1 ≤ at) wh
   pub inner-splice : (bs : List ℕ) → at + length bs ≤ identifierAt s → Inner s (splice s at bs) g
   inner-splice bs high = but-wider (but-splice s at bs (omega (arith, identifier-at s))) (slotAt s g 1) (identifierAt s) low high
 
-  pub inner-retyped : (kind : ℕ) (stamp : ℤ) → at + 10 ≤ identifierAt s → Inner s (retyped s at kind stamp) g
-  inner-retyped kind stamp high = but-wider (retyped-written s at kind stamp (omega (arith, identifier-at s))) (slotAt s g 1) (identifierAt s) low high
+  pub inner-retyped : (kind : ℕ) (stamp : ℤ) → at + stampAt (g .edition) + 8 ≤ identifierAt s → Inner s (retyped (g .edition) s at kind stamp) g
+  inner-retyped kind stamp high = but-wider (retyped-written (g .edition) s at kind stamp (omega (arith, identifier-at s))) (slotAt s g 1) (identifierAt s) low high
 
 -- ---- what it keeps
 module _ (s t : List ℕ) (g : Geometry) (good : GoodGeometry (length s) g) (i : Inner s t g) where
@@ -52,7 +52,7 @@ module _ (s t : List ℕ) (g : Geometry) (good : GoodGeometry (length s) g) (i :
   inner-super h = super-kept i h (omega (arith, slot-at s g 1, index-start s g good))
 
   pub inner-ends : endsGood t g ≡ endsGood s g
-  inner-ends = ends-same s t g g (i .long) refl (but-byte i (slotAt s g 0) (inl (omega (arith, slot-at s g 0, slot-at s g 1)))) (i .back)
+  inner-ends = ends-same s t g g (i .long) refl refl (but-part i (slotAt s g 0) slotBytes (inl (omega (arith, slot-at s g 0, slot-at s g 1)))) (i .back)
 
   -- so the image opens, where its index is sound afterwards
   pub inner-opens : (is : List Item) → GoodSuper s g → endsGood s g ≡ true → itemsOf t g ≡ is → noFault is → regionsSound g (entriesOf is) ≡ true → pathsSound (entriesOf is) ≡ true

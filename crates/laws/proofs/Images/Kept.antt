@@ -6,30 +6,32 @@ use mathlib.Core.Logic.{_⊎_, inl, inr}
 use native.Mathlib.Omega.{arith}
 use lib.ListN.{length, drop}
 use Rattle.rules.specs.Lists.{part}
-use Rattle.rules.specs.SuperBlock.{Geometry, superBlockAt}
+use Rattle.rules.specs.Editions.{superBlockAt}
+use Rattle.rules.specs.Editions.Laws.{super-bounds}
+use Rattle.rules.specs.SuperBlock.{Geometry}
 use Rattle.rules.specs.Index.{itemsOf, slotAt, slotBytes, identifierAt}
 use Rattle.rules.specs.Refusals.{accepted, Volume, judge}
 use Rattle.rules.specs.Refusals.Laws.{GoodSuper, judge-super, super-judge, judgeGeometry-same, judge-opens, opens-judge, opens-super, super-opens}
-use Rattle.laws.proofs.Lists.Spans.{SameBut, but-part, but-drop, drop-from, byte-from}
+use Rattle.laws.proofs.Lists.Spans.{SameBut, but-part, but-drop, drop-from, part-from}
 use Rattle.laws.proofs.Index.Slots.{slot-at, slot-first, identifier-at, items-same}
 use Rattle.laws.proofs.Index.Ends.{endsGood, ends-good, good-ends, ends-same}
 
 -- ---- what is judged of the super-block and of the index area depends on their bytes
-pub super-same : (s t : List ℕ) (g : Geometry) → length t ≡ length s → part t superBlockAt 42 ≡ part s superBlockAt 42 → GoodSuper s g → GoodSuper t g
-super-same s t g long same o = judge-super t g (judgeGeometry-same t s long same ∙ super-judge s g o)
+pub super-same : (s t : List ℕ) (g : Geometry) → length t ≡ length s → part t (superBlockAt (g .edition)) 42 ≡ part s (superBlockAt (g .edition)) 42 → GoodSuper s g → GoodSuper t g
+super-same s t g long same o = judge-super t g (judgeGeometry-same t s (g .edition) long same (o .edition-is) ∙ super-judge s g o)
 
-module _ (s t : List ℕ) (g h : Geometry) (low : slotBytes ≤ g .indexBytes) (long : length t ≡ length s) (index : h .indexBytes ≡ g .indexBytes) (same : drop (slotAt s g 0) t ≡ drop (slotAt s g 0) s) where
+module _ (s t : List ℕ) (g h : Geometry) (low : slotBytes ≤ g .indexBytes) (long : length t ≡ length s) (edition : h .edition ≡ g .edition) (index : h .indexBytes ≡ g .indexBytes) (same : drop (slotAt s g 0) t ≡ drop (slotAt s g 0) s) where
   pub area-items : itemsOf t h ≡ itemsOf s g
-  area-items = items-same s t g h long index (drop-from s t (slotAt s g 0) same (slotAt s g 1) (omega (arith, slot-at s g 0, slot-at s g 1)))
+  area-items = items-same s t g h long index edition (drop-from s t (slotAt s g 0) same (slotAt s g 1) (omega (arith, slot-at s g 0, slot-at s g 1)))
 
   pub area-ends : endsGood t h ≡ endsGood s g
   area-ends =
-      ends-same s t g h long index (byte-from s t (slotAt s g 0) same (slotAt s g 0) (omega arith))
+      ends-same s t g h long edition index (part-from s t (slotAt s g 0) same (slotAt s g 0) slotBytes (omega arith))
       (drop-from s t (slotAt s g 0) same (identifierAt s) (omega (arith, slot-first s g, identifier-at s)))
 
 -- so an image of the same length, with the super-block and the index area of one that opens, opens as the same volume
 pub reopens : (s t : List ℕ) (v : Volume) → judge s ≡ accepted v → length t ≡ length s
-    → part t superBlockAt 42 ≡ part s superBlockAt 42
+    → part t (superBlockAt (v .geometry .edition)) 42 ≡ part s (superBlockAt (v .geometry .edition)) 42
     → drop (slotAt s (v .geometry) 0) t ≡ drop (slotAt s (v .geometry) 0) s
     → judge t ≡ accepted v
 reopens s t v opens long super same =
@@ -38,8 +40,8 @@ reopens s t v opens long super same =
     let low : slotBytes ≤ g .indexBytes = omega (arith, o .geometry-good .index-low) in
     let e = ends-good s g (v .items) (o .index-sound) in
     opens-judge t v
-    (super-opens t v (super-same s t g long super (opens-super s v o)) (o .items-are ∙ sym (area-items s t g g low long refl same))
-    (good-ends t g (v .items) (area-ends s t g g low long refl same ∙ e .0) (e .1))
+    (super-opens t v (super-same s t g long super (opens-super s v o)) (o .items-are ∙ sym (area-items s t g g low long refl refl same))
+    (good-ends t g (v .items) (area-ends s t g g low long refl refl same ∙ e .0) (e .1))
     (o .regions-sound) (o .paths-sound))
 
 -- ---- by where a write lies
@@ -52,7 +54,7 @@ between-then s t u g long p q a n low high = q a n low (omega arith) ∙ p a n l
 
 module _ {a b : ℕ} {s t : List ℕ} (k : SameBut a b s t) where
   pub super-kept : (g : Geometry) → 512 ≤ a → GoodSuper s g → GoodSuper t g
-  super-kept g low o = super-same s t g (k .long) (but-part k superBlockAt 42 (inl (omega arith))) o
+  super-kept g low o = super-same s t g (k .long) (but-part k (superBlockAt (g .edition)) 42 (inl (omega (arith, super-bounds (g .edition))))) o
 
   pub index-kept : (g : Geometry) → b + g .indexBytes ≤ length s → drop (slotAt s g 0) t ≡ drop (slotAt s g 0) s
   index-kept g high = but-drop k (slotAt s g 0) (omega (arith, slot-first s g))

@@ -7,46 +7,46 @@ use native.Mathlib.Omega.{arith}
 use lib.ListN.{length}
 use lib.Dec.{eqb}
 use borrow.Author.Tests.{eqb-true}
-use Rattle.rules.specs.Lists.{pick}
-use Rattle.rules.specs.Fields.{byteAt, splice}
-use Rattle.rules.specs.Fields.Laws.{getD-splice-in}
+use Rattle.rules.specs.Lists.{pick, part}
+use Rattle.rules.specs.Fields.{splice}
+use Rattle.rules.specs.Fields.Laws.{part-splice-in}
 use Rattle.rules.specs.SuperBlock.{Geometry}
-use Rattle.rules.specs.Index.{slotAt, typeMarker, markerBytes, identifierAt}
+use Rattle.rules.specs.Editions.{Edition}
+use Rattle.rules.specs.Index.{slotAt, slotBytes, markerBytes, identifierAt, identifierGood}
 use Rattle.rules.specs.Index.Walk.{pick-both}
 use Rattle.rules.specs.Refusals.Laws.{length-marker}
 use Rattle.rules.specs.Writing.{putMarker}
 use Rattle.laws.proofs.Lists.Spans.{SameBut, but-none, but-splice, but-wider, but-drop}
 use Rattle.laws.proofs.Index.Slots.{slot-at, identifier-at}
-use Rattle.laws.proofs.Index.Ends.{endsGood, ends-same, identifier-same, ends-identifier, with-marker, marker-type}
+use Rattle.laws.proofs.Index.Ends.{endsGood, ends-same, identifier-same, ends-identifier, with-marker}
 
 module _ (s : List ℕ) (old new : Geometry) (low : 128 ≤ new .indexBytes) (fits : new .indexBytes ≤ length s) where
-  room : slotAt s new 0 + length markerBytes ≤ length s
-  room = omega (arith, slot-at s new 0, length-marker)
+  room : slotAt s new 0 + length (markerBytes (new .edition)) ≤ length s
+  room = omega (arith, slot-at s new 0, length-marker (new .edition))
 
-  spliced : SameBut (slotAt s new 0) (slotAt s new 1) s (splice s (slotAt s new 0) markerBytes)
-  spliced = but-wider (but-splice s (slotAt s new 0) markerBytes room) (slotAt s new 0) (slotAt s new 1) (omega arith) (omega (arith, slot-at s new 0, slot-at s new 1, length-marker))
+  spliced : SameBut (slotAt s new 0) (slotAt s new 1) s (splice s (slotAt s new 0) (markerBytes (new .edition)))
+  spliced = but-wider (but-splice s (slotAt s new 0) (markerBytes (new .edition)) room) (slotAt s new 0) (slotAt s new 1) (omega arith) (omega (arith, slot-at s new 0, slot-at s new 1, length-marker (new .edition)))
 
   pub marker-written : SameBut (slotAt s new 0) (slotAt s new 1) s (putMarker s old new)
   unfolding putMarker
   marker-written = pick-both (SameBut (slotAt s new 0) (slotAt s new 1) s) _ s _ (but-none _ _ s) spliced
 
-  -- its type
-  in-marker : byteAt (splice s (slotAt s new 0) markerBytes) (slotAt s new 0 + 0) ≡ typeMarker
-  unfolding byteAt
-  in-marker = getD-splice-in s (slotAt s new 0) markerBytes room 0 (omega (arith, length-marker)) ∙ marker-type
+  in-marker : part (splice s (slotAt s new 0) (markerBytes (new .edition))) (slotAt s new 0) slotBytes ≡ markerBytes (new .edition)
+  in-marker = rw length-marker at (part-splice-in s (slotAt s new 0) (markerBytes (new .edition)) room)
 
   -- the index keeps its size, and with it its marker; else it has one of its own
-  pub marker-good : endsGood s old ≡ true → endsGood (putMarker s old new) new ≡ true
+  pub marker-good : new .edition ≡ old .edition → endsGood s old ≡ true → endsGood (putMarker s old new) new ≡ true
   unfolding putMarker pick
-  marker-good e = by (eqb (old .indexBytes) (new .indexBytes)) refl
+  marker-good edition e = by (eqb (old .indexBytes) (new .indexBytes)) refl
     where
       t : List ℕ
-      t = splice s (slotAt s new 0) markerBytes
+      t = splice s (slotAt s new 0) (markerBytes (new .edition))
 
-      by : (b : Bool) → eqb (old .indexBytes) (new .indexBytes) ≡ b → endsGood (pick b s (splice s (slotAt s new 0) markerBytes)) new ≡ true
-      by true q = ends-same s s old new refl (sym (eqb-true (old .indexBytes) (new .indexBytes) q)) refl refl ∙ e
+      by : (b : Bool) → eqb (old .indexBytes) (new .indexBytes) ≡ b → endsGood (pick b s (splice s (slotAt s new 0) (markerBytes (new .edition)))) new ≡ true
+      by true q = ends-same s s old new refl edition (sym (eqb-true (old .indexBytes) (new .indexBytes) q)) refl refl ∙ e
       by false q =
-          let zero-on : slotAt t new 0 ≡ slotAt s new 0 + 0 = omega (arith, slot-at t new 0, slot-at s new 0, spliced .long) in
+          let here : slotAt t new 0 ≡ slotAt s new 0 = omega (arith, slot-at t new 0, slot-at s new 0, spliced .long) in
           with-marker t new
-          (ap (byteAt t) zero-on ∙ in-marker)
-          (identifier-same s t (spliced .long) (but-drop spliced (identifierAt s) (omega (arith, slot-at s new 1, identifier-at s))) ∙ ends-identifier s old e)
+          (ap (λ (n : ℕ). part t n slotBytes) here ∙ in-marker)
+          (ap (λ (ed : Edition). identifierGood ed t) edition
+          ∙ identifier-same (old .edition) s t (spliced .long) (but-drop spliced (identifierAt s) (omega (arith, slot-at s new 1, identifier-at s))) ∙ ends-identifier s old e)

@@ -1,8 +1,8 @@
 -- Where a create puts its run, and the geometry that it then writes: good, with the same blocks, and large enough. Assumes nothing.
 use Prim.Native.Nat.{ℕ, _+_, _*_, _≤_}
-use mathlib.Core.Path.{_≡_, refl, ap, _∙_}
+use mathlib.Core.Path.{_≡_, refl, sym, ap, subst, _∙_}
 use mathlib.Core.Bool.{Bool, true, false}
-use mathlib.Core.List.{List, _++_}
+use mathlib.Core.List.{List, [], _++_, append-nil}
 use mathlib.Core.Option.{Option, none, some}
 use mathlib.Core.Logic.{_⊎_, inl, inr}
 use native.Mathlib.Omega.{arith}
@@ -12,18 +12,19 @@ use lib.IntN.{ℤ}
 use borrow.Author.Tests.{leb-true}
 use Rattle.rules.specs.Lists.{pick}
 use Rattle.rules.specs.Lists.Laws.{and-true}
+use Rattle.rules.specs.Editions.{keepsDeleted}
 use Rattle.rules.specs.SuperBlock.{Geometry, ceilingBlock, dataEnd, growIndex, withIndex, withData, extendData, restamp}
 use Rattle.rules.specs.SuperBlock.Laws.{GoodGeometry, SameSealed, same-self, same-grow, same-extend, same-restamp}
-use Rattle.rules.specs.Index.{Item, innerSlots, slotAt, slotBytes}
+use Rattle.rules.specs.Index.{innerSlots, slotAt, slotBytes}
 use Rattle.rules.specs.Index.Walk.{walkAll}
 use Rattle.rules.specs.Refusals.{Volume}
 use Rattle.rules.specs.Refusals.Laws.{Opens}
-use Rattle.rules.specs.Writing.{lowestUnused, Place, mayGrow, grownPlace, placeFrom, placeRun}
+use Rattle.rules.specs.Writing.{lowestUnused, Place, mayGrow, grownPlace, placeFrom, placesFor, placeRun}
 use Rattle.laws.proofs.Lists.Parts.{some-same, none-some}
-use Rattle.laws.proofs.Index.Items.{slotsIn, slotsIn-append, noFault}
-use Rattle.laws.proofs.Index.Walks.{slots-all}
+use Rattle.laws.proofs.Index.Items.{slotsIn, slotsIn-append, noFault, tidy}
+use Rattle.laws.proofs.Index.Walks.{slots-all, keeps-tidy}
 use Rattle.laws.proofs.Index.Slots.{items-walk, inner-slots}
-use Rattle.laws.proofs.Index.Unused.{unusedFrom, unusedFrom-slots, UnusedRun, lowest-split}
+use Rattle.laws.proofs.Index.Unused.{UnusedRun, lowest-split, places-first}
 use Rattle.laws.proofs.Entries.Regions.{extend-keeps, extend-covers, extend-fits}
 use Rattle.laws.proofs.Index.Ends.{ends-good}
 use Rattle.laws.proofs.Images.Sizes.{restamp-index, restamp-end, ceiling-same, good-sizes}
@@ -35,8 +36,8 @@ newGeometry g h end stamp = restamp g (extendData h end) stamp
 
 -- ---- where the run goes
 -- to unused slots of the index as it is
-pub record AtUnused (v : Volume) (slots : ℕ) (p : Place) : Type 0 where
-  pub found : lowestUnused slots (v .items) ≡ some (p .slot)
+pub record AtUnused (v : Volume) (path : List ℕ) (slots : ℕ) (p : Place) : Type 0 where
+  pub found : lowestUnused slots (placesFor (v .geometry .edition) path (v .items)) ≡ some (p .slot)
   pub geometry-is : p .geometry ≡ v .geometry
 
 -- to the front of the index, which grows by it
@@ -46,8 +47,8 @@ pub record AtFront (n : ℕ) (v : Volume) (slots : ℕ) (p : Place) : Type 0 whe
   pub index-high : p .geometry .indexBytes ≤ 262_144
   pub data-fits : dataEnd (p .geometry) ≤ ceilingBlock n (p .geometry)
 
-abbrev pub Placed : ℕ → Volume → ℕ → Place → Type 0
-Placed n v slots p = AtUnused v slots p ⊎ AtFront n v slots p
+abbrev pub Placed : ℕ → Volume → List ℕ → ℕ → Place → Type 0
+Placed n v path slots p = AtUnused v path slots p ⊎ AtFront n v slots p
 
 grown-by : (n : ℕ) (v : Volume) (slots : ℕ) (p : Place) (h : Geometry) → h ≡ growIndex (v .geometry) (slotBytes * slots) → (b : Bool) → mayGrow n h ≡ b
     → pick b (some (record { slot = 1; geometry = h })) none ≡ some p → AtFront n v slots p
@@ -58,11 +59,11 @@ grown-by n v slots p h g true e q =
     let m = and-true (leb (h .indexBytes) 262_144) (leb (dataEnd h) (ceilingBlock n h)) e in
     rw (← i) (record { slot-is = refl; geometry-is = g; index-high = leb-true (h .indexBytes) 262_144 (m .0); data-fits = leb-true (dataEnd h) (ceilingBlock n h) (m .1) })
 
-pub run-place : (n : ℕ) (v : Volume) (slots : ℕ) (p : Place) → placeRun n v slots ≡ some p → Placed n v slots p
+pub run-place : (n : ℕ) (v : Volume) (path : List ℕ) (slots : ℕ) (p : Place) → placeRun n v path slots ≡ some p → Placed n v path slots p
 unfolding placeRun placeFrom grownPlace
-run-place n v slots p e = go (lowestUnused slots (v .items)) refl e
+run-place n v path slots p e = go (lowestUnused slots (placesFor (v .geometry .edition) path (v .items))) refl e
   where
-    go : (o : Option ℕ) → lowestUnused slots (v .items) ≡ o → placeFrom n (v .geometry) slots o ≡ some p → Placed n v slots p
+    go : (o : Option ℕ) → lowestUnused slots (placesFor (v .geometry .edition) path (v .items)) ≡ o → placeFrom n (v .geometry) slots o ≡ some p → Placed n v path slots p
     go none l q = inr (grown-by n v slots p (growIndex (v .geometry) (slotBytes * slots)) refl (mayGrow n (growIndex (v .geometry) (slotBytes * slots))) refl q)
     go (some k) l q =
         let i : record { slot = k; geometry = v .geometry } ≡ p = some-same _ p q in
@@ -78,30 +79,37 @@ pub record RunFits (slots : ℕ) (p : Place) : Type 0 where
   pub high : slotBytes * (p .slot + slots + 1) ≤ p .geometry .indexBytes
 
 module _ (s : List ℕ) (v : Volume) (o : Opens s v) where
-  walked : v .items ≡ walkAll (innerSlots (v .geometry)) 1 (drop (slotAt s (v .geometry) 1) s)
+  walked : v .items ≡ walkAll (v .geometry .edition) (innerSlots (v .geometry)) 1 (drop (slotAt s (v .geometry) 1) s)
   walked = o .items-are ∙ items-walk s (v .geometry)
 
   sound : noFault (v .items)
   sound = ends-good s (v .geometry) (v .items) (o .index-sound) .1
 
+  -- nothing is left over where deleted entries are kept
+  pub opens-tidy : keepsDeleted (v .geometry .edition) ≡ true → tidy (v .items)
+  opens-tidy keeps = keeps-tidy (v .geometry .edition) keeps _ _ _ (v .items) [] (sym walked ∙ sym (append-nil (v .items))) sound
+
   -- the unused slots among the items
-  pub unused-room : (slots k : ℕ) → lowestUnused slots (v .items) ≡ some k → UnusedRun slots 1 k (v .items)
-  unused-room slots k f = rw walked (lowest-split slots (innerSlots (v .geometry)) 1 (drop (slotAt s (v .geometry) 1) s) k (rw walked at f))
+  pub unused-room : (path : List ℕ) (slots k : ℕ) → lowestUnused slots (placesFor (v .geometry .edition) path (v .items)) ≡ some k → UnusedRun slots 1 k (v .items)
+  unused-room path slots k f =
+      let h = places-first (v .geometry .edition) path (v .items) in
+      subst (UnusedRun slots 1 k) (sym (h .1))
+      (lowest-split (v .geometry .edition) slots (innerSlots (v .geometry)) 1 (drop (slotAt s (v .geometry) 1) s) (placesFor (v .geometry .edition) path (v .items)) (h .0) k
+      (sym walked ∙ h .1) f)
 
   room-slots : (slots k : ℕ) (r : UnusedRun slots 1 k (v .items)) → slotsIn (r .pre) + slots ≤ innerSlots (v .geometry)
   room-slots slots k r =
-      let mid : List Item = unusedFrom k slots in
-      let all-of : slotsIn (v .items) ≡ innerSlots (v .geometry) = rw walked (slots-all (innerSlots (v .geometry)) 1 (drop (slotAt s (v .geometry) 1) s) (rw walked at sound)) in
-      omega (arith, all-of, ap slotsIn (r .split), slotsIn-append (r .pre) (mid ++ r .post), slotsIn-append mid (r .post), unusedFrom-slots k slots)
+      let all-of : slotsIn (v .items) ≡ innerSlots (v .geometry) = rw walked (slots-all (v .geometry .edition) (innerSlots (v .geometry)) 1 (drop (slotAt s (v .geometry) 1) s) (rw walked at sound)) in
+      omega (arith, all-of, ap slotsIn (r .split), slotsIn-append (r .pre) (r .mid ++ r .post), slotsIn-append (r .mid) (r .post), r .gap .room)
 
-  pub run-inside : (slots : ℕ) (p : Place) → Placed (length s) v slots p → RunFits slots p
-  run-inside slots p (inl a) =
-      let r = unused-room slots (p .slot) (a .found) in
+  pub run-inside : (path : List ℕ) (slots : ℕ) (p : Place) → Placed (length s) v path slots p → RunFits slots p
+  run-inside path slots p (inl a) =
+      let r = unused-room path slots (p .slot) (a .found) in
       record {
         low = omega (arith, r .place);
         high = omega (arith, r .place, room-slots slots (p .slot) r, inner-slots (v .geometry), o .geometry-good .index-low, ap (λ (h : Geometry). h .indexBytes) (a .geometry-is));
       }
-  run-inside slots p (inr a) = record {
+  run-inside path slots p (inr a) = record {
     low = omega (arith, a .slot-is);
     high = omega (arith, a .slot-is, o .geometry-good .index-low, ap (λ (h : Geometry). h .indexBytes) (a .geometry-is), grown-index (v .geometry) (slotBytes * slots));
   }
@@ -117,10 +125,10 @@ grown-end : (g : Geometry) (k : ℕ) → dataEnd (growIndex g k) ≡ dataEnd g
 unfolding dataEnd growIndex withIndex
 grown-end g k = refl
 
-pub place-grown : (n : ℕ) (v : Volume) (slots : ℕ) (p : Place) → GoodGeometry n (v .geometry) → Placed n v slots p
+pub place-grown : (n : ℕ) (v : Volume) (path : List ℕ) (slots : ℕ) (p : Place) → GoodGeometry n (v .geometry) → Placed n v path slots p
     → Grown n (v .geometry) (p .geometry)
-place-grown n v slots p o (inl a) = rw (a .geometry-is) (record { good = o; same = same-self (v .geometry); data-same = refl })
-place-grown n v slots p o (inr a) =
+place-grown n v path slots p o (inl a) = rw (a .geometry-is) (record { good = o; same = same-self (v .geometry); data-same = refl })
+place-grown n v path slots p o (inr a) =
     let g = v .geometry in
     let i : p .geometry .indexBytes ≡ g .indexBytes + slotBytes * slots = ap (λ (h : Geometry). h .indexBytes) (a .geometry-is) ∙ grown-index g (slotBytes * slots) in
     let same : SameSealed (p .geometry) g = rw (a .geometry-is) (same-grow g g (same-self g) (slotBytes * slots)) in

@@ -12,7 +12,9 @@ use lib.Seq.{take-append-seam}
 use Rattle.rules.specs.Lists.{part, padded}
 use Rattle.rules.specs.Lists.Laws.{length-padded}
 use Rattle.rules.specs.Fields.{splice}
-use Rattle.rules.specs.SuperBlock.{Geometry, blockLength, superBlockAt}
+use Rattle.rules.specs.Editions.{superBlockAt}
+use Rattle.rules.specs.Editions.Laws.{super-bounds}
+use Rattle.rules.specs.SuperBlock.{Geometry, blockLength}
 use Rattle.rules.specs.Index.{Entry, slotAt}
 use Rattle.rules.specs.Regions.{regionGood, apart, blocksOf}
 use Rattle.rules.specs.Refusals.{accepted, Volume, judge}
@@ -27,7 +29,7 @@ use Rattle.laws.proofs.Images.Areas.{RegionIn, within-in, bytes-by}
 -- what t keeps of s, which opens as v, where only bytes of e's region were written
 pub record RegionKept (s t : List ℕ) (v : Volume) (e : Entry) : Type 0 where
   pub long : length t ≡ length s
-  pub super : part t superBlockAt 42 ≡ part s superBlockAt 42
+  pub super : part t (superBlockAt (v .geometry .edition)) 42 ≡ part s (superBlockAt (v .geometry .edition)) 42
   pub index : drop (slotAt s (v .geometry) 0) t ≡ drop (slotAt s (v .geometry) 0) s
   pub opens : judge t ≡ accepted v
   pub others : (f : Entry) → apart e f ≡ true → (p n : ℕ) → f .start * blockLength (v .geometry) ≤ p → p + n ≤ f .end * blockLength (v .geometry)
@@ -42,7 +44,7 @@ module _ (s : List ℕ) (v : Volume) (opens : judge s ≡ accepted v) (e : Entry
 
   pub region-kept : (t : List ℕ) → SameBut (e .start * b) (e .end * b) s t → RegionKept s t v e
   region-kept t k =
-      let super = but-part k superBlockAt 42 (inl (omega (arith, inside .low))) in
+      let super = but-part k (superBlockAt (v .geometry .edition)) 42 (inl (omega (arith, inside .low, super-bounds (v .geometry .edition)))) in
       let index = index-kept k (v .geometry) (inside .high) in
       record {
         long = k .long;

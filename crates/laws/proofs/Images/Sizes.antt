@@ -7,7 +7,9 @@ use native.Mathlib.Omega.{arith}
 use native.Mathlib.Nat.{mul-le-mul-right, div-mul-le-self}
 use lib.ListN.{length, drop}
 use lib.IntN.{ℤ}
-use Rattle.rules.specs.SuperBlock.{Geometry, blockLength, dataEnd, ceilingBlock, restamp, withStamp, putSizes, superBlockAt, magicAt}
+use Rattle.rules.specs.Editions.{superBlockAt}
+use Rattle.rules.specs.Editions.Laws.{super-bounds}
+use Rattle.rules.specs.SuperBlock.{Geometry, blockLength, dataEnd, ceilingBlock, restamp, withStamp, putSizes, magicAt}
 use Rattle.rules.specs.SuperBlock.Laws.{GoodGeometry, SameSealed, block-low, reserved-pos, length-least, length-putSizes, putSizes-before, putSizes-after}
 use Rattle.rules.specs.Index.{slotAt, itemsOf}
 use Rattle.rules.specs.Index.Walk.{pick-both}
@@ -69,29 +71,29 @@ good-shrunk g h same n index end good =
 
 -- ---- an image with other sizes
 module _ (s : List ℕ) (g h : Geometry) (good : GoodGeometry (length s) g) where
-  room : superBlockAt + 42 ≤ length s
-  room = omega (arith, length-least (length s) g good)
+  room : superBlockAt (h .edition) + 42 ≤ length s
+  room = omega (arith, length-least (length s) g good, super-bounds (h .edition))
 
   -- between the stamp and the magic, and nowhere else
-  pub sizes-written : SameBut superBlockAt magicAt s (putSizes s h)
-  sizes-written = but-parts superBlockAt magicAt s (putSizes s h) (length-putSizes s h room) (putSizes-before s h room) (putSizes-after s h room)
+  pub sizes-written : SameBut (superBlockAt (h .edition)) (magicAt (h .edition)) s (putSizes s h)
+  sizes-written = but-parts (superBlockAt (h .edition)) (magicAt (h .edition)) s (putSizes s h) (length-putSizes s h room) (putSizes-before s h room) (putSizes-after s h room)
 
   pub sizes-long : length (putSizes s h) ≡ length s
   sizes-long = sizes-written .long
 
   pub sizes-between : (k : Geometry) → Between s (putSizes s h) k
-  sizes-between k = between-kept sizes-written k (inl (omega arith))
+  sizes-between k = between-kept sizes-written k (inl (omega (arith, super-bounds (h .edition))))
 
   pub sizes-drop : (n : ℕ) → 512 ≤ n → drop n (putSizes s h) ≡ drop n s
-  sizes-drop n low = but-drop sizes-written n (omega arith)
+  sizes-drop n low = but-drop sizes-written n (omega (arith, super-bounds (h .edition)))
 
-  -- and its index, by any geometry with an index area of this size
-  module _ (k : Geometry) (index : k .indexBytes ≡ g .indexBytes) where
+  -- and its index, by any geometry of this edition with an index area of this size
+  module _ (k : Geometry) (edition : k .edition ≡ g .edition) (index : k .indexBytes ≡ g .indexBytes) where
     area : drop (slotAt s g 0) (putSizes s h) ≡ drop (slotAt s g 0) s
     area = sizes-drop (slotAt s g 0) (omega (arith, slot-first s g, index-start s g good))
 
     pub sizes-ends : endsGood (putSizes s h) k ≡ endsGood s g
-    sizes-ends = area-ends s (putSizes s h) g k (omega (arith, good .index-low)) sizes-long index area
+    sizes-ends = area-ends s (putSizes s h) g k (omega (arith, good .index-low)) sizes-long edition index area
 
     pub sizes-items : itemsOf (putSizes s h) k ≡ itemsOf s g
-    sizes-items = area-items s (putSizes s h) g k (omega (arith, good .index-low)) sizes-long index area
+    sizes-items = area-items s (putSizes s h) g k (omega (arith, good .index-low)) sizes-long edition index area

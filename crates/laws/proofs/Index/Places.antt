@@ -8,7 +8,8 @@ use native.Mathlib.Omega.{arith}
 use lib.ListN.{drop}
 use Rattle.rules.specs.Lists.{all, any, first, firstIf}
 use Rattle.rules.specs.Lists.Laws.{clash, and-both}
-use Rattle.rules.specs.Index.{Entry, Item, unused, entry, fault, itemAt, entryAt, unusableAt, isFault, followed, entriesOf, slotBytes}
+use Rattle.rules.specs.Editions.{Edition}
+use Rattle.rules.specs.Index.{Entry, Item, unused, stale, entry, fault, itemAt, entryAt, unusableAt, isFault, followed, entriesOf, slotBytes}
 use Rattle.rules.specs.Index.Walk.{walkAll, walk-step, slotsOf}
 use Rattle.rules.specs.Writing.{itemSlot}
 use Rattle.laws.proofs.Lists.Every.{none-passes, any-none, all-join}
@@ -20,53 +21,55 @@ use Rattle.laws.proofs.Index.Walks.{Split, walk-split, walk-some, walk-
 pub followed-end : (i : Item) (r : ℕ → List Item) → isFault i ≡ true → followed i r ≡ i ∷ []
 unfolding followed isFault
 followed-end (unused k) r e = clash (sym e)
+followed-end (stale k n) r e = clash (sym e)
 followed-end (entry x) r e = clash (sym e)
 followed-end (fault k) r e = refl
 
 -- an item with something behind it is no fault
-early-sound : (left k : ℕ) (a : List ℕ) (y x : Item) (xs post : List Item) → walkAll left k a ≡ y ∷ (xs ++ (x ∷ post)) → isFault y ≡ false
-early-sound left k a y x xs post e = by (isFault y) refl
+early-sound : (ed : Edition) (left k : ℕ) (a : List ℕ) (y x : Item) (xs post : List Item) → walkAll ed left k a ≡ y ∷ (xs ++ (x ∷ post)) → isFault y ≡ false
+early-sound ed left k a y x xs post e = by (isFault y) refl
   where
     by : (t : Bool) → isFault y ≡ t → t ≡ false
     by false f = refl
     by true f =
-        let here : itemAt left k a ≡ y = walk-first left k a y (xs ++ (x ∷ post)) e in
-        let end : walkAll left k a ≡ y ∷ [] = walk-step left k a (walk-some left k a y (xs ++ (x ∷ post)) e) ∙ rw here (followed-end y _ f) in
+        let here : itemAt ed left k a ≡ y = walk-first ed left k a y (xs ++ (x ∷ post)) e in
+        let end : walkAll ed left k a ≡ y ∷ [] = walk-step ed left k a (walk-some ed left k a y (xs ++ (x ∷ post)) e) ∙ rw here (followed-end y _ f) in
         nil-append xs x post (cons-tail (sym end ∙ e))
 
 -- so what stands before an item has none
-pub before-sound : (left k : ℕ) (a : List ℕ) (pre : List Item) (x : Item) (post : List Item) → walkAll left k a ≡ pre ++ (x ∷ post) → noFault pre
+pub before-sound : (ed : Edition) (left k : ℕ) (a : List ℕ) (pre : List Item) (x : Item) (post : List Item) → walkAll ed left k a ≡ pre ++ (x ∷ post) → noFault pre
 unfolding all
-before-sound left k a [] x post e = refl
-before-sound left k a (y ∷ pre) x post e =
-    let f : isFault y ≡ false = early-sound left k a y x pre post e in
+before-sound ed left k a [] x post e = refl
+before-sound ed left k a (y ∷ pre) x post e =
+    let f : isFault y ≡ false = early-sound ed left k a y x pre post e in
     and-both (not (isFault y)) (all (λ i. not (isFault i)) pre) (rw f)
-    (before-sound (left - slotsOf y) (k + slotsOf y) (drop (slotBytes * slotsOf y) a) pre x post (walk-rest left k a y (pre ++ (x ∷ post)) e f))
+    (before-sound ed (left - slotsOf y) (k + slotsOf y) (drop (slotBytes * slotsOf y) a) pre x post (walk-rest ed left k a y (pre ++ (x ∷ post)) e f))
 
 -- ---- the place of an item
-pub item-slot : (left k : ℕ) (a : List ℕ) → itemSlot (itemAt left k a) ≡ k
+pub item-slot : (ed : Edition) (left k : ℕ) (a : List ℕ) → itemSlot (itemAt ed left k a) ≡ k
 unfolding itemSlot entryAt unusableAt
-item-slot left k a = item-by left k a (λ i. itemSlot i ≡ k) (λ r h g. refl) (λ r u. refl) (λ r u s. refl) refl
+item-slot ed left k a = item-by ed left k a (λ i. itemSlot i ≡ k) (λ o r h g. refl) (λ o r u h. refl) (λ o r u s. refl) (λ o. refl) refl
 
-module _ (left k : ℕ) (a : List ℕ) (pre : List Item) (x : Item) (post : List Item) (e : walkAll left k a ≡ pre ++ (x ∷ post)) where
-  parts : Split left k a pre (x ∷ post)
-  parts = walk-split left k a pre (x ∷ post) e (before-sound left k a pre x post e)
+module _ (ed : Edition) (left k : ℕ) (a : List ℕ) (pre : List Item) (x : Item) (post : List Item) (e : walkAll ed left k a ≡ pre ++ (x ∷ post)) where
+  parts : Split ed left k a pre (x ∷ post)
+  parts = walk-split ed left k a pre (x ∷ post) e (before-sound ed left k a pre x post e)
 
   pub place-within : slotsIn pre < left
-  place-within = omega (arith, walk-some _ _ _ x post (parts .back))
+  place-within = omega (arith, walk-some ed _ _ _ x post (parts .back))
 
   -- the item is what is read there
-  pub item-there : itemAt (left - slotsIn pre) (k + slotsIn pre) (drop (slotBytes * slotsIn pre) a) ≡ x
-  item-there = walk-first _ _ _ x post (parts .back)
+  pub item-there : itemAt ed (left - slotsIn pre) (k + slotsIn pre) (drop (slotBytes * slotsIn pre) a) ≡ x
+  item-there = walk-first ed _ _ _ x post (parts .back)
 
   pub slot-there : itemSlot x ≡ k + slotsIn pre
-  slot-there = sym (ap itemSlot item-there) ∙ item-slot (left - slotsIn pre) (k + slotsIn pre) (drop (slotBytes * slotsIn pre) a)
+  slot-there = sym (ap itemSlot item-there) ∙ item-slot ed (left - slotsIn pre) (k + slotsIn pre) (drop (slotBytes * slotsIn pre) a)
 
 -- ---- entries
 pub entriesOf-append : (xs ys : List Item) → entriesOf (xs ++ ys) ≡ entriesOf xs ++ entriesOf ys
 unfolding entriesOf
 entriesOf-append [] ys = refl
 entriesOf-append (unused k ∷ xs) ys = entriesOf-append xs ys
+entriesOf-append (stale k n ∷ xs) ys = entriesOf-append xs ys
 entriesOf-append (entry e ∷ xs) ys = ap (λ (es : List Entry). e ∷ es) (entriesOf-append xs ys)
 entriesOf-append (fault k ∷ xs) ys = entriesOf-append xs ys
 
@@ -92,6 +95,7 @@ pub first-split : (p : Entry → Bool) (is : List Item) (e : Entry) → first p 
 unfolding entriesOf first firstIf any
 first-split p [] e h = none-some e h
 first-split p (unused k ∷ is) e h = found-later p (unused k) is e refl (first-split p is e h)
+first-split p (stale k n ∷ is) e h = found-later p (stale k n) is e refl (first-split p is e h)
 first-split p (fault k ∷ is) e h = found-later p (fault k) is e refl (first-split p is e h)
 first-split p (entry x ∷ is) e h = by (p x) refl (λ g. first-split p is e g)
   where

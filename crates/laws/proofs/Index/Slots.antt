@@ -22,7 +22,7 @@ module _ (s : List ℕ) where
   unfolding identifierAt
   identifier-at = refl
 
-  pub items-walk : (g : Geometry) → itemsOf s g ≡ walkAll (innerSlots g) 1 (drop (slotAt s g 1) s)
+  pub items-walk : (g : Geometry) → itemsOf s g ≡ walkAll (g .edition) (innerSlots g) 1 (drop (slotAt s g 1) s)
   unfolding itemsOf walkAll
   items-walk g = refl
 
@@ -32,19 +32,19 @@ inner-slots g = refl
 
 -- an index of 128 bytes has no slot between its ends
 pub no-items : (s : List ℕ) (g : Geometry) → g .indexBytes ≡ 128 → itemsOf s g ≡ []
-no-items s g i = let z : innerSlots g ≡ 0 = omega (arith, inner-slots g) in items-walk s g ∙ rw z (walk-none 1 _)
+no-items s g i = let z : innerSlots g ≡ 0 = omega (arith, inner-slots g) in items-walk s g ∙ rw z (walk-none (g .edition) 1 _)
 
 -- items are what is read from slot 1 on, so of the index area
-pub items-from : (s t : List ℕ) (g h : Geometry) → h .indexBytes ≡ g .indexBytes → drop (slotAt t h 1) t ≡ drop (slotAt s g 1) s → itemsOf t h ≡ itemsOf s g
+pub items-from : (s t : List ℕ) (g h : Geometry) → h .edition ≡ g .edition → h .indexBytes ≡ g .indexBytes → drop (slotAt t h 1) t ≡ drop (slotAt s g 1) s → itemsOf t h ≡ itemsOf s g
 unfolding itemsOf innerSlots
-items-from s t g h index same = rw (same, index)
+items-from s t g h edition index same = rw (same, edition, index)
 
 pub items-area : (s t : List ℕ) (g : Geometry) → drop (slotAt t g 0) t ≡ drop (slotAt s g 0) s → itemsOf t g ≡ itemsOf s g
 items-area s t g same =
     let next : (x : List ℕ) → slotAt x g 1 ≡ slotAt x g 0 + slotBytes = λ x. omega (arith, slot-at x g 0, slot-at x g 1) in
     let on : (x : List ℕ) → drop (slotAt x g 1) x ≡ drop slotBytes (drop (slotAt x g 0) x) =
     λ x. ap (λ (n : ℕ). drop n x) (next x) ∙ sym (drop-drop slotBytes (slotAt x g 0) x) in
-    items-from s t g g refl (on t ∙ ap (drop slotBytes) same ∙ sym (on s))
+    items-from s t g g refl refl (on t ∙ ap (drop slotBytes) same ∙ sym (on s))
 
 -- a place depends on the image's length and the index area's size
 module _ (s t : List ℕ) (g h : Geometry) (long : length t ≡ length s) (index : h .indexBytes ≡ g .indexBytes) where
@@ -52,5 +52,5 @@ module _ (s t : List ℕ) (g h : Geometry) (long : length t ≡ length s) (index
   unfolding slotAt
   slot-same k = rw (long, index)
 
-  pub items-same : drop (slotAt s g 1) t ≡ drop (slotAt s g 1) s → itemsOf t h ≡ itemsOf s g
-  items-same same = items-from s t g h index (rw (slot-same 1) same)
+  pub items-same : h .edition ≡ g .edition → drop (slotAt s g 1) t ≡ drop (slotAt s g 1) s → itemsOf t h ≡ itemsOf s g
+  items-same edition same = items-from s t g h edition index (rw (slot-same 1) same)

@@ -49,26 +49,26 @@ inner-few s v o h = omega (arith, inner-slots (v .geometry), o .geometry-good .i
 
 module _ (s : List ℕ) (v : Volume) (bytes : Bytes s) (o : Opens s v) (small : length s ≤ 65_536) where
   -- a sum over the entries that stand in the index
-  sum-entries : (f : Entry → ℕ) (m : ℕ) → ((left k : ℕ) (a : List ℕ) → 0 < left → Bytes a → Weighs f m left (itemAt left k a))
+  sum-entries : (f : Entry → ℕ) (m : ℕ) → ((left k : ℕ) (a : List ℕ) → 0 < left → Bytes a → Weighs f m left (itemAt (v .geometry .edition) left k a))
       → sum f (entries v) ≤ m * innerSlots (v .geometry)
   unfolding itemsOf walkAll
   sum-entries f m each =
       rw (o .items-are)
-      (sum-walk f m each (innerSlots (v .geometry)) (innerSlots (v .geometry)) 1 (drop (slotAt s (v .geometry) 1) s) (bytes-drop (slotAt s (v .geometry) 1) s bytes))
+      (sum-walk (v .geometry .edition) f m each (innerSlots (v .geometry)) (innerSlots (v .geometry)) 1 (drop (slotAt s (v .geometry) 1) s) (bytes-drop (slotAt s (v .geometry) 1) s bytes))
 
   few : innerSlots (v .geometry) ≤ 1022
   few = inner-few s v o small
 
   lines-fit : length (linesOf (only isLive (entries v))) ≤ perSlot * 1022
   lines-fit =
-      omega (arith, lines-sum (only isLive (entries v)), sum-only (λ e. length (lineOf e)) isLive (entries v), sum-entries (λ e. length (lineOf e)) perSlot line-weighs, few)
+      omega (arith, lines-sum (only isLive (entries v)), sum-only (λ e. length (lineOf e)) isLive (entries v), sum-entries (λ e. length (lineOf e)) perSlot (line-weighs (v .geometry .edition)), few)
 
   live-few : length (only isLive (entries v)) ≤ 1022
-  live-few = omega (arith, count-sum (only isLive (entries v)), sum-only (λ e. 1) isLive (entries v), sum-entries (λ e. 1) 1 one-weighs, few)
+  live-few = omega (arith, count-sum (only isLive (entries v)), sum-only (λ e. 1) isLive (entries v), sum-entries (λ e. 1) 1 (one-weighs (v .geometry .edition)), few)
 
   held-few : heldBlocks (entries v) ≤ 2 ^ 64 * 1022
   unfolding heldBlocks
-  held-few = omega (arith, sum-only blocksOf (λ e. fileType (e .kind)) (entries v), sum-entries blocksOf (2 ^ 64) blocks-weigh, few)
+  held-few = omega (arith, sum-only blocksOf (λ e. fileType (e .kind)) (entries v), sum-entries blocksOf (2 ^ 64) (blocks-weigh (v .geometry .edition)), few)
 
   count-fits : length (countLine (entries v)) ≤ 39
   unfolding countLine

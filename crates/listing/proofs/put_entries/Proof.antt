@@ -12,13 +12,13 @@ use Rattle.listing.proofs.put_entries.Statement.{statement}
 use Rattle.listing.proofs.put_entries.Tie as tie
 
 abbrev start : tie.After-put-lines → tie.Start
-start c = c .before .before .before .before
+start c = c .before .before .before .before .before
 
 put-lines-requires : tie.Need-put-lines-requires
 put-lines-requires c κs =
-    let s = c .before .before .before in
+    let s = c .before .before .before .before in
     let es = entriesFrom (now (s .args .img)) (s .args .from) in
-    (s .pre .0, omega (arith, length-append (liveText es) (countLine es)))
+    (s .pre .0, omega (arith, length-append (liveText es) (countLine es)), s .pre .3)
 
 count-live-requires : tie.Need-count-live-requires
 count-live-requires c κs = search needs

@@ -1,6 +1,7 @@
 use mathlib.Core.Path.{refl, _∙_}
 use denote.Ref.{now}
 use borrow.Author.Needs.{needs}
+use Rattle.editions.specs.View.{editionView}
 use Rattle.path_rules.specs.Gathering.{key-path, key-kind, read-follows}
 use Rattle.path_rules.specs.Shared.{names-common}
 use Rattle.path_rules.proofs.may_follow.Statement.{statement}
@@ -10,7 +11,7 @@ name-follows-requires : tie.Need-name-follows-requires
 name-follows-requires c κs =
     let n = c .before in
     let s = n .before .before .before .before .before .before in
-    names-common (now (s .args .img)) (s .args .from .at .0) (s .args .a) (s .args .b) _ _ _ (n .before .name-of .ensures) (n .name-of2 .ensures) (c .shared-of .ensures) (s .pre .1)
+    names-common (editionView (s .args .from .edition)) (now (s .args .img)) (s .args .from .at .0) (s .args .a) (s .args .b) _ _ _ (n .before .name-of .ensures) (n .name-of2 .ensures) (c .shared-of .ensures) (s .pre .1)
 
 returns : tie.Need-returns
 returns c =

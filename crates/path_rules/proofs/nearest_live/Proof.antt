@@ -13,10 +13,10 @@ use Rattle.path_rules.proofs.nearest_live.Statement.{statement}
 use Rattle.path_rules.proofs.nearest_live.Tie as tie
 
 abbrev Inv-loop : tie.InvT-loop
-Inv-loop img from path end₀ end = (end ≤ length path) × (nearestLive (entriesFrom img from) (leading (take end path)) ≡ nearestLive (entriesFrom img from) (leading path))
+Inv-loop img sums from path end₀ end = (end ≤ length path) × (nearestLive (entriesFrom img from) (leading (take end path)) ≡ nearestLive (entriesFrom img from) (leading path))
 
 abbrev μ-loop : tie.MeasureT-loop
-μ-loop img from path end₀ end = end
+μ-loop img sums from path end₀ end = end
 
 loop-holds : tie.Need-loop-holds Inv-loop μ-loop
 loop-holds c = (search needs, ap (nearestLive _) (ap leading (take-length _)))

@@ -6,7 +6,7 @@ use Rattle.path_rules.proofs.paths_sound.Statement.{statement}
 use Rattle.path_rules.proofs.paths_sound.Tie as tie
 
 chained-requires : tie.Need-chained-requires
-chained-requires c κs = (search needs, pivoted-small _ _ _ (c .before .before .before .gather .ensures .small))
+chained-requires c κs = (search needs, pivoted-small _ _ _ _ (c .before .before .before .gather .ensures .small))
 
 returns : tie.Need-returns
 returns c = sound-at-once _ _ _ _ (c .before .before .before .before .before .gather .ensures) (sym (c .before .chained .ensures) ∙ c .if1 .taken)
@@ -17,7 +17,7 @@ chained-requires-2 c κs =
     let l = t .before .before .before .before .before in
     let g = l .before .before .before .before .before .before .before in
     let b = g .before .before .before .before in
-    (search needs, pivoted-sorted _ _ (λ i. b .shared-slice-known .given i .fits) _ _ _ (l .number .ensures) (t .sort-from .ensures))
+    (search needs, pivoted-sorted _ _ _ (λ i. b .before .shared-slice-known .given i .fits) _ _ _ (l .number .ensures) (t .sort-from .ensures))
 
 returns-2 : tie.Need-returns-2
 returns-2 c =
@@ -25,7 +25,7 @@ returns-2 c =
     let l = t .before .before .before .before .before in
     let g = l .before .before .before .before .before .before .before in
     let b = g .before .before .before .before in
-    c .chained2 .ensures ∙ sound-sorted _ _ _ _ (g .gather .ensures) (λ i. b .shared-slice-known .given i .fits) _ (l .number .ensures .few) _ _ (l .number .ensures .keys) (t .sort-from .ensures)
+    c .chained2 .ensures ∙ sound-sorted _ _ _ _ (g .gather .ensures) (λ i. b .before .shared-slice-known .given i .fits) _ (l .number .ensures .few) _ _ (l .number .ensures .keys) (t .sort-from .ensures)
 
 pub paths-sound-spec : {M : Type 1} → statement M
 paths-sound-spec =

@@ -9,12 +9,12 @@ use Rattle.paths.proofs.compare_name.Statement.{statement}
 use Rattle.paths.proofs.compare_name.Tie as tie
 
 name-field-requires : tie.Need-name-field-requires
-name-field-requires c κs = let b = c .before .before in field-fits (now (b .args .img)) _ _ _ (b .pre .0) (b .pre .1)
+name-field-requires c κs = let b = c .before .before in field-fits _ (now (b .args .img)) _ _ _ (b .pre .0) (b .pre .1)
 
 compare-requires : tie.Need-compare-requires
 compare-requires c κs =
     let b = c .before .before .before in
-    omega (arith, ap length (c .name-field .ensures), name-short (now (b .args .img)) _ _ _ (b .pre .0) (b .pre .1))
+    omega (arith, ap length (c .name-field .ensures), name-short _ (now (b .args .img)) _ _ _ (b .pre .0) (b .pre .1))
 
 returns : tie.Need-returns
 returns c =

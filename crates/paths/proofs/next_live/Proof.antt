@@ -6,29 +6,30 @@ use Rattle.rules.specs.Lists.{only}
 use Rattle.rules.specs.Lists.Laws.{first-chosen, first-unchosen}
 use Rattle.rules.specs.Paths.{nextLive}
 use Rattle.slots.specs.View.{head-spot}
-use Rattle.index.specs.Steps.{Walks, entriesFrom, Arrives}
+use Rattle.index.specs.View.{SumsFrom}
+use Rattle.index.specs.Steps.{Walks, entriesFrom, Arrives, sums-arrives}
 use Rattle.index.specs.Turns.{stops-end, stops-at}
-use Rattle.paths.specs.View.{liveFrom, searched-none, searched-some}
+use Rattle.paths.specs.View.{liveFrom, searched-none, searched-some, none-of, some-of}
 use Rattle.paths.specs.Entries.{only-end, only-stop, only-next}
 use borrow.Author.Needs.{needs}
 use Rattle.paths.proofs.next_live.Statement.{statement}
 use Rattle.paths.proofs.next_live.Tie as tie
 
 abbrev Inv-loop : tie.InvT-loop
-Inv-loop img slot at₀ at = Walks img at × (only (liveFrom (slot .0)) (entriesFrom img at) ≡ only (liveFrom (slot .0)) (entriesFrom img at₀))
+Inv-loop img sums slot at₀ at = Walks img at × (only (liveFrom (slot .0)) (entriesFrom img at) ≡ only (liveFrom (slot .0)) (entriesFrom img at₀)) × (at .edition ≡ at₀ .edition) × SumsFrom img sums at
 
 abbrev μ-loop : tie.MeasureT-loop
-μ-loop img slot at₀ at = at .left
+μ-loop img sums slot at₀ at = at .left
 
 returns : tie.Need-returns Inv-loop μ-loop
 unfolding nextLive liveFrom
 returns c =
     let n = c .before .before in
     let l = n .before in
-    searched-none _ _ (first-unchosen _ _ (sym (l .loop .inv .1) ∙ only-end _ _ (stops-end _ _ _ (n .next-spot .ensures) (c .enum-told .given .1))))
+    (searched-none _ _ (first-unchosen _ _ (sym (l .loop .inv .1) ∙ only-end _ _ (stops-end _ _ _ (n .next-spot .ensures) (c .enum-told .given .1)))), none-of _)
 
 step : (c : tie.After-e Inv-loop μ-loop) → let l = c .before .before .before in
-    Arrives (now (l .before .before .args .img)) (l .loop .at) (c .e .given .0 .0) (c .e .given .0 .1 .0)
+    Arrives (now (l .before .before .before .args .img)) (l .loop .at) (c .e .given .0 .0) (c .e .given .0 .1 .0)
 step c = stops-at _ _ _ (c .before .before .next-spot .ensures) _ _ (c .e .given .1)
 
 head-at-requires : tie.Need-head-at-requires Inv-loop μ-loop
@@ -42,14 +43,18 @@ returns-2 c =
     let r = step h in
     let v = c .head-at .ensures in
     let same = r .view ∙ sym (v .0) in
-    let met = only-stop _ _ _ _ (r .entries) (sym (k .before .is-from .ensures _) ∙ k .if1 .taken) in
-    searched-some _ _ _ (first-chosen _ _ _ _ (sym (h .before .before .before .loop .inv .1) ∙ met) ∙ ap some same) (head-spot _ _ _ same (v .1 .0) (r .spot))
+    let i = h .before .before .before .loop .inv in
+    let met = only-stop _ _ _ _ (r .entries) (sym (k .before .is-from .ensures _) ∙ k .if1 .taken) in (
+      searched-some _ _ _ (first-chosen _ _ _ _ (sym (i .1) ∙ met) ∙ ap some same) (head-spot _ _ _ same (v .1 .0) (v .1 .1) (r .spot)),
+      some-of _ _ (v .1 .0 ∙ r .of ∙ i .2),
+    )
 
 loop-again : tie.Need-loop-again Inv-loop μ-loop
 loop-again c =
     let h = c .before .before .before in
     let r = step h in
-    (r .walks, only-next _ _ _ _ (r .entries) (sym (c .before .is-from .ensures _) ∙ c .if1 .left) ∙ h .before .before .before .loop .inv .1)
+    let i = h .before .before .before .loop .inv in
+    (r .walks, only-next _ _ _ _ (r .entries) (sym (c .before .is-from .ensures _) ∙ c .if1 .left) ∙ i .1, r .edition ∙ i .2, sums-arrives _ _ _ (i .3) _ _ r)
 
 pub next-live-spec : {M : Type 1} → statement M
 next-live-spec =
@@ -57,8 +62,8 @@ next-live-spec =
     (tie.spec
     Inv-loop
     μ-loop
-    (λ c. (c .before .pre, refl))
-    (λ c κs. c .loop .inv .0)
+    (λ c. let p = c .before .before .pre in (p .0, refl, refl, p .1))
+    (λ c κs. (c .loop .inv .0, c .loop .inv .3))
     (λ c. search needs)
     returns
     (λ c. search needs)

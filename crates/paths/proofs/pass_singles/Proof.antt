@@ -1,10 +1,10 @@
 use mathlib.Core.Path.{sym, _∙_}
 use native.Mathlib.Omega.{arith}
 use borrow.Author.Tests.{not-false}
+use Rattle.editions.specs.View.{editionView}
 use Rattle.paths.specs.View.{OfRuns}
 use Rattle.paths.specs.Entries.{sought-entry}
-use Rattle.paths.specs.Searching.{Over, Goes, over-none, over-room, over-next, strikes}
-use borrow.Author.Needs.{needs}
+use Rattle.paths.specs.Searching.{Over, Goes, over-none, over-runs, over-room, over-next, strikes}
 use Rattle.paths.proofs.pass_singles.Statement.{statement}
 use Rattle.paths.proofs.pass_singles.Tie as tie
 
@@ -17,7 +17,7 @@ abbrev μ-loop : tie.MeasureT-loop
 abbrev at-loop : tie.After-single Inv-loop μ-loop → tie.At-loop Inv-loop μ-loop
 at-loop c = c .before .before .before .before .before .before
 
-runs : (c : tie.After-single Inv-loop μ-loop) → OfRuns (at-loop c .before .before .before .args .what)
+runs : (c : tie.After-single Inv-loop μ-loop) → let a = at-loop c .before .before .before .args in OfRuns (editionView (a .from .edition)) (a .what)
 runs c = at-loop c .before .before .before .pre .1
 
 is-single-requires : tie.Need-is-single-requires Inv-loop μ-loop
@@ -30,12 +30,13 @@ returns c = c .before .before .before .before .before .loop .inv
 single-requires : tie.Need-single-requires Inv-loop μ-loop
 single-requires c κs =
     let t = c .before .before .before in
-    (t .before .before .loop .inv .walks, t .if1 .taken, c .before .is-single .ensures (not-false _ (c .if2 .left)))
+    (t .before .before .loop .inv .walks, t .if1 .taken, c .before .is-single .ensures (not-false _ (c .if2 .left)) _)
 
 passes-requires : tie.Need-passes-requires Inv-loop μ-loop
 passes-requires c κs =
     let f = c .before .before in
-    (runs f, λ t. f .single .ensures .entry (sought-entry _ _ (runs f) t) .spot)
+    let here = over-runs _ _ _ _ _ (runs f) _ _ (at-loop f .loop .inv) _ _ (f .single .ensures) in
+    (here, λ t. f .single .ensures .entry (sought-entry _ _ _ here t) .spot)
 
 add-n : tie.Need-add-n Inv-loop μ-loop
 add-n c =

@@ -16,14 +16,14 @@ sought : (c : tie.Else1) → let a = c .before .before .before .before .args in 
 sought c = sym (c .before .is-sought .ensures) ∙ not-false _ (c .if1 .left)
 
 compare-name-requires : tie.Need-compare-name-requires
-compare-name-requires c κs = let b = c .before .before .before .before in (b .pre .1 (sought c), sought-run _ _ (b .pre .0) (sought c))
+compare-name-requires c κs = let b = c .before .before .before .before in (b .pre .1 (sought c), sought-run _ _ _ (b .pre .0) (sought c))
 
 returns-2 : tie.Need-returns-2
 returns-2 c =
     let e = c .before in
     let b = e .before .before .before .before in
     let r = c .compare-name .ensures in
-    tried _ _ _ _ _ _ (sought e) (r .0 ∙ name-reaches _ _ _ (b .pre .1 (sought e)) (sought-run _ _ (b .pre .0) (sought e)) _ (b .pre .0 .end)) (r .1)
+    tried _ _ _ _ _ _ (sought e) (r .0 ∙ name-reaches _ _ _ (b .pre .1 (sought e)) (sought-run _ _ _ (b .pre .0) (sought e)) _ (b .pre .0 .end)) (r .1)
 
 pub passes-spec : {M : Type 1} → statement M
 passes-spec =

@@ -1,3 +1,4 @@
+use mathlib.Core.Path.{refl}
 use native.Mathlib.Omega.{arith}
 use Rattle.placing.specs.Placed.{head-fits, site-put}
 use borrow.Author.Needs.{needs}
@@ -40,7 +41,7 @@ returns c = let b = c .before .before in
     let m = marked r in
     let s = sized m in
     let h = headed s in
-    site-put _ _ _ _ _ (h .before .before .before .before .pre) _ _ (h .head-of .ensures) _ _ _ _
+    site-put _ _ _ _ _ (h .before .before .before .before .pre) _ _ (h .head-of .ensures) _ refl _ _ _ _
     (s .put-sizes .ensures) (m .move-marker .ensures) (r .put-run .ensures) (b .put-blocks .ensures)
 
 pub put-new-spec : {M : Type 1} → statement M

@@ -1,5 +1,6 @@
 use mathlib.Core.Path.{_≡_, sym, _∙_}
 use mathlib.Core.Bool.{true, false}
+use native.Mathlib.Omega.{arith}
 use denote.Ref.{now}
 use borrow.Author.Tests.{not-true, not-false}
 use Rattle.rules.specs.Lists.{isSome}
@@ -24,11 +25,14 @@ volume x = volumeOf (now (x .args .img)) (geometryView (x .args .g))
 abbrev first : tie.Else1 → tie.Start
 first c = c .before .before .before .before .before .before
 
+abbrev held : tie.After-first-slot → tie.Else2
+held c = c .before .before
+
 abbrev begun : tie.After-first-slot → tie.Start
-begun c = first (c .before .before .before)
+begun c = first (held c .before .before)
 
 abbrev looked : tie.Else3 → tie.After-first-slot
-looked c = c .before .before .before
+looked c = c .before .before .before .before .before
 
 -- what each test that was passed says
 current : (c : tie.Else1) → writable (geometryView (first c .args .g)) ≡ true
@@ -40,17 +44,17 @@ named c = sym (c .before .new-path-good .ensures) ∙ not-false _ (c .if2 .left)
 walks : (c : tie.After-first-slot) → Walks (now (begun c .args .img)) (c .first-slot .result)
 walks c = opened-walks _ _ (begun c .pre .0) _ (c .first-slot .ensures .0) (c .first-slot .ensures .1)
 
-sought : (c : tie.After-is-found) → let x = begun (c .before .before) in
+sought : (c : tie.After-is-found) → let x = begun (c .before .before .before .before) in
     isSome (lookup (now (x .args .path)) (entries (volume x))) ≡ c .is-found .result
-sought c = let f = c .before .before in
+sought c = let f = c .before .before .before .before in
     found-is _ _ (f .first-slot .result) (f .first-slot .ensures .0) _ _ (c .before .lookup .ensures) ∙ sym (c .is-found .ensures)
 
 absent : (c : tie.Else3) → let x = begun (looked c) in isSome (lookup (now (x .args .path)) (entries (volume x))) ≡ false
 absent c = sought (c .before) ∙ c .if3 .left
 
-nearest : (c : tie.After-nearest-live) → let x = begun (looked (c .before)) in
+nearest : (c : tie.After-nearest-live) → let x = begun (looked (c .before .before)) in
     nearestLive (entries (volume x)) (leading (now (x .args .path))) ≡ c .nearest-live .result
-nearest c = let f = looked (c .before) in
+nearest c = let f = looked (c .before .before) in
     nearest-is _ _ (f .first-slot .result) (f .first-slot .ensures .0) _ ∙ sym (c .nearest-live .ensures)
 
 is-writable-requires : tie.Need-is-writable-requires
@@ -67,33 +71,33 @@ returns-2 c = let p = c .before .before in
     planned-name _ _ (first p .pre .0) _ _ _ (current p) (sym (c .before .new-path-good .ensures) ∙ not-true _ (c .if2 .taken))
 
 first-slot-requires : tie.Need-first-slot-requires
-first-slot-requires c κs = opened-super _ _ (first (c .before .before) .pre .0)
+first-slot-requires c κs = (opened-super _ _ (first (c .before .before .before) .pre .0), omega arith)
 
 lookup-requires : tie.Need-lookup-requires
-lookup-requires c κs = walks c
+lookup-requires c κs = let f = c .before .before in (walks f, f .first-slot .ensures .6)
 
 is-found-requires : tie.Need-is-found-requires
 is-found-requires c κs = search needs
 
 returns-3 : tie.Need-returns-3
-returns-3 c = let f = c .before .before .before in
-    planned-live _ _ (begun f .pre .0) _ _ _ (current (f .before .before .before)) (named (f .before)) (sought (c .before) ∙ c .if3 .taken)
+returns-3 c = let f = c .before .before .before .before .before in
+    planned-live _ _ (begun f .pre .0) _ _ _ (current (held f .before .before)) (named (held f)) (sought (c .before) ∙ c .if3 .taken)
 
 nearest-live-requires : tie.Need-nearest-live-requires
-nearest-live-requires c κs = walks (looked c)
+nearest-live-requires c κs = let f = looked (c .before) in (walks f, f .first-slot .ensures .6)
 
 returns-4 : tie.Need-returns-4
-returns-4 c = let e = c .before .before in
+returns-4 c = let e = c .before .before .before in
     let f = looked e in
-    planned-orphan _ _ (begun f .pre .0) _ _ _ (current (f .before .before .before)) (named (f .before)) (absent e)
+    planned-orphan _ _ (begun f .pre .0) _ _ _ (current (held f .before .before)) (named (held f)) (absent e)
     (nearest (c .before) ∙ not-true _ (c .if4 .taken))
 
 plan-places-requires : tie.Need-plan-places-requires
-plan-places-requires c κs = let e = c .before .before in
+plan-places-requires c κs = let e = c .before .before .before .before in
     let f = looked e in
     let o = begun f .pre .0 in
-    let a = admitted _ _ o _ (current (f .before .before .before)) (named (f .before)) (absent e) (nearest (c .before) ∙ not-false _ (c .if4 .left)) in
-    (o, (f .first-slot .ensures .0, f .first-slot .ensures .1), a, begun f .pre .1)
+    let a = admitted _ _ o _ (current (held f .before .before)) (named (held f)) (absent e) (nearest (c .before .before) ∙ not-false _ (c .before .if4 .left)) in
+    (o, (f .first-slot .ensures .0, f .first-slot .ensures .1, f .first-slot .ensures .5), a, begun f .pre .1, f .first-slot .ensures .6)
 
 returns-5 : tie.Need-returns-5
 returns-5 c = search needs
@@ -106,11 +110,15 @@ plan-opened-spec =
     returns
     new-path-good-requires
     returns-2
+    (λ c. search needs)
     first-slot-requires
+    (λ c. search needs)
     lookup-requires
     is-found-requires
     returns-3
+    (λ c. search needs)
     nearest-live-requires
     returns-4
+    (λ c. search needs)
     plan-places-requires
     returns-5)

@@ -5,6 +5,7 @@ use denote.Ref.{now}
 use lib.ListN.{length}
 use Rattle.rules.specs.Writing.{New, newSlots, newBlocks, placeRun, placeFile}
 use Rattle.rules.specs.Refusals.{Volume, entries}
+use Rattle.editions.specs.View.{editionView}
 use Rattle.geometry.specs.View.{geometryView}
 use Rattle.judging.specs.View.{volumeOf, opened-super}
 use Rattle.placing.specs.Site.{newOf}
@@ -26,7 +27,7 @@ volume x = volumeOf (now (x .args .img)) (geometryView (x .args .g))
 
 -- the places before, one behind the other
 abbrev first : tie.After-slots-for → tie.Start
-first c = c .before .before .before .before .before
+first c = c .before .before .before .before .before .before
 
 abbrev sized : tie.After-slot → tie.After-slots-for
 sized c = c .before .before .before
@@ -35,16 +36,16 @@ abbrev slotted : tie.After-start → tie.After-slot
 slotted c = c .before .before .before .before .before
 
 -- the slots of the run
-slots-are : (c : tie.After-slots-for) → c .slots-for .result ≡ newSlots (made (first c)) (now (first c .args .path))
+slots-are : (c : tie.After-slots-for) → c .slots-for .result ≡ newSlots (editionView (first c .args .g .edition)) (made (first c)) (now (first c .args .path))
 slots-are c = c .slots-for .ensures (now (first c .args .bytes))
 
 -- its place
 run-is : (c : tie.After-place-run) (r : RunPlace) → c .place-run .result ≡ r → let x = first (c .before) in
-    placeRun (length (now (x .args .img))) (volume x) (newSlots (made x) (now (x .args .path))) ≡ placeView r
-run-is c r e = run-says _ _ _ _ _ (c .place-run .ensures) e _ (slots-are (c .before))
+    placeRun (length (now (x .args .img))) (volume x) (now (x .args .path)) (newSlots (editionView (x .args .g .edition)) (made x) (now (x .args .path))) ≡ placeView r
+run-is c r e = run-says _ _ _ _ _ _ (c .place-run .ensures) e _ (slots-are (c .before))
 
 run-said : (c : tie.After-slot) → let x = first (sized c) in
-    placeRun (length (now (x .args .img))) (volume x) (newSlots (made x) (now (x .args .path)))
+    placeRun (length (now (x .args .img))) (volume x) (now (x .args .path)) (newSlots (editionView (x .args .g .edition)) (made x) (now (x .args .path)))
     ≡ some (record { slot = c .slot .given .0 .0 .0; geometry = geometryView (c .slot .given .0 .1 .0) })
 run-said c = run-is (c .before .before) _ (c .slot .given .1)
 
@@ -61,7 +62,7 @@ slots-for-requires c κs = search needs
 
 place-run-requires : tie.Need-place-run-requires
 place-run-requires c κs = let x = first c in
-    (x .pre .0, x .pre .1, omega (arith, slots-are c), omega (arith, slots-are c, few-slots _ _ (x .pre .0) (made x) _ (x .pre .2)))
+    (x .pre .0, x .pre .1, omega (arith, slots-are c), omega (arith, slots-are c, few-slots _ _ (x .pre .0) (made x) _ (x .pre .2)), x .pre .4)
 
 enum-told : tie.Need-enum-told
 enum-told c = search needs

@@ -3,6 +3,7 @@ use mir.Syntax.{w64}
 use mir.ValLaws.{toZ-ofZ}
 use Rattle.rules.specs.Outcome.{numbersOf}
 use Rattle.slots.specs.View.{headView}
+use Rattle.reading.specs.Found.{end-given}
 use borrow.Author.Needs.{needs}
 use Rattle.reading.proofs.entry_numbers.Statement.{statement}
 use Rattle.reading.proofs.entry_numbers.Tie as tie
@@ -26,7 +27,7 @@ returns : tie.Need-returns
 unfolding numbersOf headView
 returns c = let d = c .before in
     let f = c .from-bits in
-    (refl, λ s. rw (toZ-ofZ w64 (f .result) (record { sfits = f .ok }), f .ensures, d .number3 .ensures, d .before .number2 .ensures, d .before .before .number .ensures))
+    (refl, λ s. rw (toZ-ofZ w64 (f .result) (record { sfits = f .ok }), f .ensures, end-given s (d .before .before .before .before .args .h), d .number3 .ensures, d .before .number2 .ensures, d .before .before .number .ensures))
 
 pub entry-numbers-spec : {M : Type 1} → statement M
 entry-numbers-spec = tie.close (tie.spec cast-t2 number-requires number-requires-2 number-requires-3 from-bits-requires returns)

@@ -1,12 +1,14 @@
-use mathlib.Core.Path.{sym, _∙_}
+use mathlib.Core.Path.{sym, ap, _∙_}
+use native.Mathlib.Omega.{arith}
 use denote.Ref.{now}
 use Rattle.rules.specs.Paths.{nextLive}
 use Rattle.rules.specs.Refusals.{entries}
 use Rattle.rules.specs.Outcome.{done}
 use Rattle.rules.specs.Reading.Laws.{list-none}
+use Rattle.editions.specs.View.{editionView}
 use Rattle.geometry.specs.View.{geometryView}
 use Rattle.slots.specs.View.{headView}
-use Rattle.paths.specs.View.{Searched, searched-nothing, searched-entry}
+use Rattle.paths.specs.View.{Searched, searched-nothing, searched-entry, found-of}
 use Rattle.judging.specs.View.{volumeOf, opened-super, opened-walks, opened-entries}
 use Rattle.reading.specs.Found.{list-found, next-run}
 use borrow.Author.Needs.{needs}
@@ -14,19 +16,22 @@ use Rattle.reading.proofs.list_from.Statement.{statement}
 use Rattle.reading.proofs.list_from.Tie as tie
 
 abbrev start : tie.After-next-live → tie.Start
-start c = c .before .before .before .before
+start c = c .before .before .before .before .before .before .before
 
 -- what was sought, among the volume's entries
 searched : (c : tie.After-next-live) → let a = start c .args in
     Searched (now (a .img)) (nextLive (a .slot .0) (entries (volumeOf (now (a .img)) (geometryView (a .g))))) (c .next-live .result)
-searched c = let f = c .before .first-slot in
-    rw (opened-entries _ _ (start c .pre) (f .result) (f .ensures .0)) at (c .next-live .ensures)
+searched c = let f = c .before .before .before .first-slot in
+    rw (opened-entries _ _ (start c .pre) (f .result) (f .ensures .0)) at (c .next-live .ensures .0)
 
 first-slot-requires : tie.Need-first-slot-requires
-first-slot-requires c κs = opened-super _ _ (c .before .before .pre)
+first-slot-requires c κs = (opened-super _ _ (c .before .before .before .pre), omega arith)
 
 next-live-requires : tie.Need-next-live-requires
-next-live-requires c κs = opened-walks _ _ (c .before .before .before .pre) _ (c .first-slot .ensures .0) (c .first-slot .ensures .1)
+next-live-requires c κs =
+    let f = c .before .before in
+    let e = f .first-slot .ensures in
+    (opened-walks _ _ (f .before .before .before .before .pre) _ (e .0) (e .1), e .6)
 
 enum-told : tie.Need-enum-told
 enum-told c = search needs
@@ -54,7 +59,8 @@ same-length c = search needs
 returns-2 : tie.Need-returns-2
 returns-2 c = let h = c .before .before .before .before .before in
     let l = h .before .before in
-    c .before .before .list-entry .ensures ∙ sym (list-found _ _ (start l .pre) _ _ _ (searched-entry _ _ _ (searched l) _ (h .h .given .1) .0))
+    let own = found-of _ _ (l .next-live .ensures .1) _ (h .h .given .1) ∙ l .before .before .before .first-slot .ensures .5 in
+    c .before .before .list-entry .ensures ∙ sym (list-found _ _ (start l .pre) _ _ _ (searched-entry _ _ _ (searched l) _ (h .h .given .1) .0) _ (ap editionView own))
 
 pub list-from-spec : {M : Type 1} → statement M
-list-from-spec = tie.close (tie.spec first-slot-requires next-live-requires enum-told none-listed-requires enum-known-h list-entry-requires returns same-length returns-2)
+list-from-spec = tie.close (tie.spec (λ c. search needs) first-slot-requires (λ c. search needs) next-live-requires enum-told none-listed-requires enum-known-h list-entry-requires returns same-length returns-2)

@@ -25,7 +25,7 @@ good c = sym (c .before .path-good .ensures) ∙ not-false _ (c .if1 .left)
 -- what was found
 looked : (c : tie.After-h) → let a = start (c .before .before .before .before) .args in
     lookup (now (a .path)) (entries (volumeOf (now (a .img)) (geometryView (a .g)))) ≡ some (headView (now (a .img)) (c .h .given .0 .0))
-looked c = searched-entry _ _ _ (c .before .before .look-up .ensures) _ (c .h .given .1) .0
+looked c = searched-entry _ _ _ (c .before .before .look-up .ensures .0) _ (c .h .given .1) .0
 
 path-good-requires : tie.Need-path-good-requires
 path-good-requires c κs = search needs
@@ -56,7 +56,7 @@ read-file-requires c κs = let h = c .before .before in
 
 returns-2 : tie.Need-returns-2
 returns-2 c = let l = c .before .before .before in
-    c .no-content2 .ensures _ _ ∙ sym (read-none _ _ (start (l .before .before) .pre) _ _ (good (l .before)) (searched-nothing _ _ _ (l .look-up .ensures) (c .before .enum-told .given .1)))
+    c .no-content2 .ensures _ _ ∙ sym (read-none _ _ (start (l .before .before) .pre) _ _ (good (l .before)) (searched-nothing _ _ _ (l .look-up .ensures .0) (c .before .enum-told .given .1)))
 
 same-length : tie.Need-same-length
 same-length c = search needs

@@ -6,16 +6,17 @@ use denote.Ref.{now}
 use Rattle.rules.specs.Lists.{all}
 use Rattle.rules.specs.Regions.{apart}
 use Rattle.slots.specs.View.{headView}
-use Rattle.index.specs.Steps.{Walks, Step, entriesFrom}
+use Rattle.index.specs.View.{SumsFrom}
+use Rattle.index.specs.Steps.{Walks, Step, entriesFrom, sums-step}
 use Rattle.index.specs.Turns.{told-end, told-found, all-end, all-stop, all-next}
 use Rattle.regions.proofs.apart_from_rest.Statement.{statement}
 use Rattle.regions.proofs.apart_from_rest.Tie as tie
 
 abbrev Inv-loop : tie.InvT-loop
-Inv-loop img h c₀ c = Walks img c × (all (apart (headView img h)) (entriesFrom img c) ≡ all (apart (headView img h)) (entriesFrom img c₀))
+Inv-loop img sums h c₀ c = Walks img c × (all (apart (headView img h)) (entriesFrom img c) ≡ all (apart (headView img h)) (entriesFrom img c₀)) × SumsFrom img sums c
 
 abbrev μ-loop : tie.MeasureT-loop
-μ-loop img h c₀ c = c .left
+μ-loop img sums h c₀ c = c .left
 
 returns : tie.Need-returns Inv-loop μ-loop
 returns c =
@@ -23,7 +24,7 @@ returns c =
     all-end _ _ (told-end _ _ _ (n .next-entry .ensures) (c .enum-told .given .1)) ∙ n .before .loop .inv .1
 
 step : (c : tie.After-e Inv-loop μ-loop) → let l = c .before .before .before in
-    Step (now (l .before .before .args .img)) (l .loop .c) (c .e .given .0 .0) (c .e .given .0 .1 .0)
+    Step (now (l .before .before .before .args .img)) (l .loop .c) (c .e .given .0 .0) (c .e .given .0 .1 .0)
 step c = told-found _ _ _ (c .before .before .next-entry .ensures) _ _ (c .e .given .1)
 
 returns-2 : tie.Need-returns-2 Inv-loop μ-loop
@@ -34,7 +35,8 @@ returns-2 c =
 loop-again : tie.Need-loop-again Inv-loop μ-loop
 loop-again c =
     let e = c .before .before .before in
-    (step e .walks, all-next _ _ _ (step e .entries) _ (sym (c .before .regions-apart .ensures _) ∙ not-false _ (c .if1 .left)) ∙ e .before .before .before .loop .inv .1)
+    let l = e .before .before .before .loop in
+    (step e .walks, all-next _ _ _ (step e .entries) _ (sym (c .before .regions-apart .ensures _) ∙ not-false _ (c .if1 .left)) ∙ l .inv .1, sums-step _ _ (l .c) (l .inv .2) _ _ (step e))
 
 pub apart-from-rest-spec : {M : Type 1} → statement M
 apart-from-rest-spec =
@@ -42,8 +44,8 @@ apart-from-rest-spec =
     (tie.spec
     Inv-loop
     μ-loop
-    (λ c. (c .before .pre, refl))
-    (λ c κs. c .loop .inv .0)
+    (λ c. let p = c .before .before .pre in (p .0, refl, p .1))
+    (λ c κs. (c .loop .inv .0, c .loop .inv .2))
     (λ c. search needs)
     returns
     (λ c. search needs)

@@ -15,10 +15,10 @@ use Rattle.regions.proofs.judge_regions.Statement.{statement}
 use Rattle.regions.proofs.judge_regions.Tie as tie
 
 abbrev first : tie.After-i → tie.Start
-first c = c .before .before .before .before .before .before .before .before .before
+first c = c .before .before .before .before .before .before .before .before .before .before
 
 -- what was gathered
-gathered : (c : tie.After-i) → let a = first c .args in let k = c .before .before .before .before .gather .last .1 .1 .1 .0 in
+gathered : (c : tie.After-i) → let a = first c .args in let k = c .before .before .before .before .gather .last .1 .1 .1 .1 .0 in
     (all (regionGood (geometryView (a .g))) (entriesFrom (now (a .img)) (a .from)) ≡ true)
     × (c .i .given .0 .0 ≤ length k) × (drop (c .i .given .0 .0) k ≡ regionKeys (entriesFrom (now (a .img)) (a .from)))
 gathered c = gathers-from _ _ _ _ _ (c .before .before .before .before .gather .ensures) _ (c .i .given .1)

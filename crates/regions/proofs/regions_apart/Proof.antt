@@ -7,11 +7,11 @@ use Rattle.regions.proofs.regions_apart.Tie as tie
 
 returns : tie.Need-returns
 unfolding apart headView
-returns c s = rw (sym (c .before .is-at-or-before .ensures) ∙ c .if1 .taken)
+returns c s = rw (sym (c .before .ends-by .ensures s) ∙ c .if1 .taken)
 
 returns-2 : tie.Need-returns-2
 unfolding apart headView
-returns-2 c s = rw (sym (c .before .before .is-at-or-before .ensures) ∙ c .before .if1 .left) (c .is-at-or-before2 .ensures)
+returns-2 c s = rw (sym (c .before .before .ends-by .ensures s) ∙ c .before .if1 .left) (c .ends-by2 .ensures s)
 
 pub regions-apart-spec : {M : Type 1} → statement M
 regions-apart-spec = tie.close (tie.spec (λ c κs. search needs) returns (λ c κs. search needs) returns-2)

@@ -1,7 +1,7 @@
 use mathlib.Core.Path.{_≡_, sym, _∙_}
 use mathlib.Core.Bool.{true}
 use lib.Dec.{leb}
-use borrow.Author.Tests.{not-true, not-false}
+use borrow.Author.Tests.{not-true, not-false, leb-true, leb-false, lt-ltb, le-ltb}
 use Rattle.rules.specs.Regions.{withinData}
 use Rattle.slots.specs.View.{headView}
 use borrow.Author.Needs.{needs}
@@ -17,13 +17,13 @@ started c = rw (← c .before .before .data-start .ensures) (sym (c .before .is-
 
 returns-2 : tie.Need-returns-2
 unfolding withinData headView
-returns-2 c s = rw (started (c .before .before), sym (c .before .is-before .ensures) ∙ not-true _ (c .if2 .taken))
+returns-2 c s = rw (started (c .before .before), le-ltb _ _ (leb-true _ _ (sym (c .before .ends-by .ensures s) ∙ c .if2 .taken)))
 
 returns-3 : tie.Need-returns-3
 unfolding withinData headView
 returns-3 c s =
     let e = c .before .before in
-    rw (started (e .before .before), sym (e .before .is-before .ensures) ∙ not-false _ (e .if2 .left), ← c .before .data-end .ensures) (c .is-at-or-before2 .ensures)
+    rw (started (e .before .before), lt-ltb _ _ (leb-false _ _ (sym (e .before .ends-by .ensures s) ∙ e .if2 .left)), ← c .before .data-end .ensures) (c .ends-by2 .ensures s)
 
 pub within-data-spec : {M : Type 1} → statement M
 within-data-spec =

@@ -7,7 +7,9 @@ use Rattle.rules.specs.SuperBlock.{writable}
 use Rattle.rules.specs.Names.{pathGood}
 use Rattle.rules.specs.Writing.Laws.{restore-later, restore-name, restore-none}
 use Rattle.geometry.specs.View.{geometryView}
-use Rattle.paths.specs.View.{hit-nothing, hit-entry}
+use native.Mathlib.Omega.{arith}
+use Rattle.index.specs.View.{sums-behind}
+use Rattle.paths.specs.View.{hit-nothing, hit-entry, hit-of}
 use Rattle.judging.specs.View.{opened-super, opened-walks, opened-entries}
 use Rattle.retyping.specs.Planned.{RetypePlanned}
 use borrow.Author.Needs.{needs}
@@ -18,8 +20,11 @@ use Rattle.restoring.proofs.plan_entry.Tie as tie
 abbrev first-place : tie.Else1 → tie.Start
 first-place c = c .before .before .before .before
 
+abbrev held : tie.After-first-slot → tie.Else2
+held c = c .before .before
+
 abbrev begun : tie.After-first-slot → tie.Start
-begun c = first-place (c .before .before .before)
+begun c = first-place (held c .before .before)
 
 -- what each test that was passed says
 current : (c : tie.Else1) → writable (geometryView (first-place c .args .g)) ≡ true
@@ -38,30 +43,40 @@ returns-2 c z = let p = c .before .before in
     restore-name _ _ (first-place p .pre) (current p) _ z (sym (c .before .path-good .ensures) ∙ not-true _ (c .if2 .taken))
 
 first-slot-requires : tie.Need-first-slot-requires
-first-slot-requires c κs = opened-super _ _ (first-place (c .before .before) .pre)
+first-slot-requires c κs = (opened-super _ _ (first-place (c .before .before .before) .pre), omega arith)
 
 first-deleted-requires : tie.Need-first-deleted-requires
-first-deleted-requires c κs = opened-walks _ _ (begun c .pre) _ (c .first-slot .ensures .0) (c .first-slot .ensures .1)
+first-deleted-requires c κs =
+    let f = c .before .before in
+    let e = f .first-slot .ensures in
+    (opened-walks _ _ (begun f .pre) _ (e .0) (e .1), e .6)
 
 plan-first-requires : tie.Need-plan-first-requires
-plan-first-requires c κs = let d = c .before .before .before in
-    let f = d .before in
-    record {
-      opened = begun f .pre;
-      may = current (f .before .before .before);
-      named = good (f .before);
-      items = f .first-slot .ensures .0;
-      inside = f .first-slot .ensures .1;
-      hit = hit-entry _ _ _ _ (d .first-deleted .ensures) _ _ (c .before .h .given .1);
-    }
+plan-first-requires c κs =
+    let h = c .before .before in
+    let d = h .before .before in
+    let f = d .before .before .before in
+    let e = f .first-slot .ensures in
+    let told = hit-of _ _ (d .first-deleted .ensures .1) _ _ (h .h .given .1) in (
+      record {
+        opened = begun f .pre;
+        may = current (held f .before .before);
+        named = good (held f);
+        items = e .0;
+        inside = e .1;
+        hit = hit-entry _ _ _ _ (d .first-deleted .ensures .0) _ _ (h .h .given .1);
+      },
+      e .6,
+      sums-behind _ _ _ (e .6) _ (told .1),
+    )
 
 returns-3 : tie.Need-returns-3
 unfolding RetypePlanned
 returns-3 c z = let d = c .before .before in
-    let f = d .before in
-    restore-none _ _ (begun f .pre) (current (f .before .before .before)) _ z (good (f .before))
+    let f = d .before .before .before in
+    restore-none _ _ (begun f .pre) (current (held f .before .before)) _ z (good (held f))
     (ap (first _) (sym (opened-entries _ _ (begun f .pre) (f .first-slot .result) (f .first-slot .ensures .0)))
-    ∙ hit-nothing _ _ _ _ (d .first-deleted .ensures) (c .enum-told .given .1))
+    ∙ hit-nothing _ _ _ _ (d .first-deleted .ensures .0) (c .enum-told .given .1))
 
 pub plan-entry-spec : {M : Type 1} → statement M
 plan-entry-spec =
@@ -71,8 +86,11 @@ plan-entry-spec =
     returns
     (λ c κs. search needs)
     returns-2
+    (λ c. search needs)
     first-slot-requires
+    (λ c. search needs)
     first-deleted-requires
+    (λ c. search needs)
     (λ c. search needs)
     (λ c. search needs)
     plan-first-requires

@@ -14,7 +14,7 @@ use Rattle.restoring.proofs.plan_first.Tie as tie
 
 -- the places before, one behind the other
 abbrev begun : tie.After-lookup → tie.Start
-begun c = c .before .before .before
+begun c = c .before .before .before .before
 
 abbrev looked : tie.Else1 → tie.After-lookup
 looked c = c .before .before
@@ -34,31 +34,31 @@ near : (c : tie.Else2) → let x = begun (looked (placed c)) in
 near c = sym (c .before .nearest-live .ensures) ∙ not-false _ (c .if2 .left)
 
 lookup-requires : tie.Need-lookup-requires
-lookup-requires c κs = met-walks _ _ _ _ _ _ (c .before .before .pre)
+lookup-requires c κs = let p = c .before .before .before .pre in (met-walks _ _ _ _ _ _ (p .0), p .1)
 
 returns : tie.Need-returns
 returns c = let l = c .before .before in
-    met-live _ _ _ _ _ _ (begun l .pre) _ (l .lookup .ensures) (sym (c .before .is-found .ensures) ∙ c .if1 .taken)
+    met-live _ _ _ _ _ _ (begun l .pre .0) _ (l .lookup .ensures) (sym (c .before .is-found .ensures) ∙ c .if1 .taken)
 
 nearest-live-requires : tie.Need-nearest-live-requires
-nearest-live-requires c κs = met-walks _ _ _ _ _ _ (begun (looked c) .pre)
+nearest-live-requires c κs = let p = begun (looked c) .pre in (met-walks _ _ _ _ _ _ (p .0), p .1)
 
 returns-2 : tie.Need-returns-2
 returns-2 c = let e = c .before .before in
     let l = looked e in
-    met-orphan _ _ _ _ _ _ (begun l .pre) _ (l .lookup .ensures) (free e) (sym (c .before .nearest-live .ensures) ∙ not-true _ (c .if2 .taken))
+    met-orphan _ _ _ _ _ _ (begun l .pre .0) _ (l .lookup .ensures) (free e) (sym (c .before .nearest-live .ensures) ∙ not-true _ (c .if2 .taken))
 
 any-deleted-requires : tie.Need-any-deleted-requires
-any-deleted-requires c κs = begun (looked (placed c)) .pre .hit .walks
+any-deleted-requires c κs = let p = begun (looked (placed c)) .pre in (p .0 .hit .walks, p .2)
 
 returns-3 : tie.Need-returns-3
 returns-3 c = let n = c .before .before in
     let e = placed n in
     let l = looked e in
-    met-several _ _ _ _ _ _ (begun l .pre) _ (l .lookup .ensures) (free e) (near n) (sym (c .before .any-deleted .ensures) ∙ c .if3 .taken)
+    met-several _ _ _ _ _ _ (begun l .pre .0) _ (l .lookup .ensures) (free e) (near n) (sym (c .before .any-deleted .ensures) ∙ c .if3 .taken)
 
 at-slot-requires : tie.Need-at-slot-requires
-at-slot-requires c κs = let m = begun (looked (placed (counted (c .before)))) .pre in
+at-slot-requires c κs = let m = begun (looked (placed (counted (c .before)))) .pre .0 in
     (m .opened, found-room _ _ (m .opened) _ _ (met-first _ _ _ _ _ _ m))
 
 returns-4 : tie.Need-returns-4
@@ -67,8 +67,8 @@ returns-4 c = let a = c .before .before in
     let e = placed n in
     let l = looked e in
     c .at-slot .ensures _
-    (as-kind _ _ _ _ _ (c .before .live-kind .ensures)
-    (met-alone _ _ _ _ _ _ (begun l .pre) _ (l .lookup .ensures) (free e) (near n) (sym (a .before .any-deleted .ensures) ∙ a .if3 .left)))
+    (as-kind _ _ _ _ _ _ (c .before .live-kind .ensures)
+    (met-alone _ _ _ _ _ _ (begun l .pre .0) _ (l .lookup .ensures) (free e) (near n) (sym (a .before .any-deleted .ensures) ∙ a .if3 .left)))
 
 pub plan-first-spec : {M : Type 1} → statement M
 plan-first-spec =

@@ -1,23 +1,10 @@
-use native.Mathlib.Omega.{arith}
-use denote.Ref.{now}
-use Rattle.geometry.specs.View.{geometryView}
-use Rattle.laws.proofs.Index.Slots.{slot-at}
-use Rattle.judging.specs.View.{opened-super}
-use Rattle.retyping.specs.Planned.{planned-at}
+use Rattle.retyping.specs.Planned.{planned-retype}
+use borrow.Author.Needs.{needs}
 use Rattle.retyping.proofs.at_slot.Statement.{statement}
 use Rattle.retyping.proofs.at_slot.Tie as tie
 
-index-start-requires : tie.Need-index-start-requires
-index-start-requires c κs = opened-super _ _ (c .before .pre .0) .good .index-fits
-
-offset-requires : tie.Need-offset-requires
-offset-requires c κs = let x = c .before .before in
-    omega (arith, c .index-start .ensures, slot-at (now (x .args .img)) (geometryView (x .args .g)) (x .args .slot .0), x .pre .1, opened-super _ _ (x .pre .0) .short)
-
 returns : tie.Need-returns
-returns c call is = let x = c .before .before .before in
-    let k = slot-at (now (x .args .img)) (geometryView (x .args .g)) (x .args .slot .0) in
-    planned-at _ call _ _ _ (omega (arith, c .offset .ensures .0, c .before .index-start .ensures, k)) (x .pre .1) is
+returns c = let x = c .before .before in λ call is. planned-retype _ call _ (x .pre .0) _ _ (c .place-of .ensures) _ (x .pre .1) is
 
 pub at-slot-spec : {M : Type 1} → statement M
-at-slot-spec = tie.close (tie.spec index-start-requires offset-requires returns)
+at-slot-spec = tie.close (tie.spec (λ c κs. search needs) returns)

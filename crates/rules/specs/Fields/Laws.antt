@@ -201,6 +201,16 @@ unfolding byteSum sum
 byteSum-append [] ys = omega arith
 byteSum-append (x ∷ xs) ys = omega (arith, byteSum-append xs ys)
 
+-- zeros behind bytes add nothing
+pub byteSum-zeros : (n : ℕ) → byteSum (replicate n 0) ≡ 0
+unfolding byteSum sum
+byteSum-zeros zero = refl
+byteSum-zeros (suc n) = omega (arith, byteSum-zeros n)
+
+pub byteSum-padded : (xs : List ℕ) (n : ℕ) → byteSum (padded xs n) ≡ byteSum xs
+unfolding padded
+byteSum-padded xs n = byteSum-append xs (replicate (n - length xs) 0) ∙ omega (arith, byteSum-zeros (n - length xs))
+
 -- a turn of a loop that sums modulo 256
 pub sum-turn : (s : List ℕ) (i r : ℕ) → i < length s → ((r + getD s i 0) % 256 + byteSum (drop (i + 1) s)) % 256 ≡ (r + byteSum (drop i s)) % 256
 sum-turn s i r h =

@@ -54,7 +54,7 @@ module _ (s : List ℕ) (v : Volume) (opens : judge s ≡ accepted v) where
     unfolding findOf
     find-none p e = volume-denied noEntry s [] _ v 11 opens (need-true 10 _ p ∙ found-none 11 _ e)
 
-    pub find-done : (e : Entry) → pathGood path ≡ true → lookup path (entries v) ≡ some e → findOf s path ≡ done (numbersOf e) s []
+    pub find-done : (e : Entry) → pathGood path ≡ true → lookup path (entries v) ≡ some e → findOf s path ≡ done (numbersOf (v .geometry .edition) e) s []
     unfolding findOf
     find-done e p f = volume-done noEntry s [] _ v _ opens (need-true 10 _ p ∙ found-some 11 _ f)
 
@@ -77,4 +77,4 @@ module _ (s : List ℕ) (v : Volume) (opens : judge s ≡ accepted v) where
   module _ (slot : ℕ) (out : List ℕ) where
     pub list-none : nextLive slot (entries v) ≡ none → listOf s slot out ≡ done noneListed s out
     unfolding listOf listed
-    list-none e = volume-done noneListed s out _ v _ opens (ap (listed s out) e)
+    list-none e = volume-done noneListed s out _ v _ opens (ap (listed (v .geometry .edition) s out) e)

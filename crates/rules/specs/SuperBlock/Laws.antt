@@ -5,7 +5,7 @@ use mathlib.Core.Bool.{Bool, true, false}
 use mathlib.Core.List.{List, [], _∷_, _++_}
 use mathlib.Core.Option.{Option, none, some}
 use native.Mathlib.Omega.{arith}
-use native.Mathlib.Nat.{add-assoc, zero-mul, add-mul, mul-le-mul-right, le-mul-of-pos-right, div-mul-le-self}
+use native.Mathlib.Nat.{add-assoc, zero-mul, add-mul, mul-le-mul-left, mul-le-mul-right, le-mul-of-pos-right, div-mul-le-self}
 use lib.Pow.{pow-mono, pow-pos}
 use lib.ListN.{length, take, length-append}
 use lib.Seq.{take-all}
@@ -20,7 +20,8 @@ use Rattle.rules.specs.Fields.Laws.{le-1, length-leBytes, le-leBytes, le
 use Rattle.rules.specs.Fields.Signed.{bitsOf-lt, signedOf-mag, signed-bits, bits-signed}
 use Rattle.rules.specs.Dates.{floorMod}
 use Rattle.rules.specs.Index.Walk.{pick-both}
-use Rattle.rules.specs.SuperBlock.{Geometry, geometryOf, blockBytes, blockLength, ceilingBlock, dataEnd, indexGood, geometryGood, fieldOf, growIndex, withIndex, withData, extendData, trimData, withStamp, restamp, sizesBytes, summedBytes, superBlockBytes, putSizes, superBlockAt, magic, magicAt, versionAt, blockFieldAt, sealedLength, mostIndexBytes}
+use Rattle.rules.specs.Editions.{Edition, superBlockAt}
+use Rattle.rules.specs.SuperBlock.{Geometry, geometryOf, blockBytes, blockLength, ceilingBlock, dataEnd, indexGood, geometryGood, fieldOf, growIndex, withIndex, withData, extendData, trimData, withStamp, restamp, sizesBytes, summedBytes, superBlockBytes, putSizes, magic, magicAt, versionAt, blockFieldAt, sealedLength, mostIndexBytes, totalAt}
 
 -- ---- a good geometry
 pub record GoodGeometry (n : ℕ) (g : Geometry) : Type 0 where
@@ -123,6 +124,10 @@ good-fit n g good h =
       reserved-fit = omega arith;
     }
 
+-- an image has 65,536 blocks at most
+pub few-blocks : (n : ℕ) (g : Geometry) → GoodGeometry n g → n ≤ 16_777_216 → g .total ≤ 65_536
+few-blocks n g good h = omega (arith, good .whole, mul-le-mul-left (g .total) (block-low n g good))
+
 -- ---- how long it is as stored
 pub length-sizes : (g : Geometry) → length (sizesBytes g) ≡ 24
 unfolding sizesBytes stampBytes
@@ -176,6 +181,10 @@ pub stored-index : (g : Geometry) → asStored g .indexBytes ≡ g .indexBytes
 unfolding asStored withStamp
 stored-index g = refl
 
+pub stored-edition : (g : Geometry) → asStored g .edition ≡ g .edition
+unfolding asStored withStamp
+stored-edition g = refl
+
 pub good-stored : (n : ℕ) (g : Geometry) → GoodGeometry n g → GoodGeometry n (asStored g)
 good-stored n g h = geometry-good n (asStored g) (stored-good n g ∙ good-geometry n g h)
 
@@ -218,35 +227,38 @@ module _ (g : Geometry) where
   summed-field : le 1 (summedBytes g) 16 ≡ g .blockField
   summed-field = summed-behind 1 4 ∙ le-append-after 1 (leBytes 4 (g .reserved)) (g .blockField ∷ []) 4 0 (length-leBytes 4 _) ∙ le-1 _ 0
 
+pub le-here : (w : ℕ) (t : List ℕ) (n : ℕ) → le w t n ≡ le w t (n + 0)
+le-here w t n = let e : n ≡ n + 0 = omega arith in ap (le w t) e
+
 -- ---- an image whose super-block begins with these sizes, and r behind them
-module _ (t : List ℕ) (g : Geometry) (r : List ℕ) (here : part t superBlockAt 42 ≡ sizesBytes g ++ r) where
-  read-sizes : (w o : ℕ) → o + w ≤ 24 → le w t (superBlockAt + o) ≡ le w (sizesBytes g) o
+module _ (t : List ℕ) (g : Geometry) (r : List ℕ) (here : part t (superBlockAt (g .edition)) 42 ≡ sizesBytes g ++ r) where
+  read-sizes : (w o : ℕ) → o + w ≤ 24 → le w t ((superBlockAt (g .edition)) + o) ≡ le w (sizesBytes g) o
   read-sizes w o h =
-      sym (le-part w t superBlockAt 42 o (omega arith))
+      sym (le-part w t (superBlockAt (g .edition)) 42 o (omega arith))
       ∙ ap (λ (p : List ℕ). le w p o) here
       ∙ le-append-before w (sizesBytes g) r o (omega (arith, length-sizes g))
 
-  read-rest : (w o : ℕ) → o + w ≤ 18 → le w t (magicAt + o) ≡ le w r o
+  read-rest : (w o : ℕ) → o + w ≤ 18 → le w t ((magicAt (g .edition)) + o) ≡ le w r o
   read-rest w o h =
-      sym (le-part w t superBlockAt 42 (24 + o) (omega arith) ∙ ap (le w t) (omega arith))
+      sym (le-part w t (superBlockAt (g .edition)) 42 (24 + o) (omega arith) ∙ ap (le w t) (omega arith))
       ∙ ap (λ (p : List ℕ). le w p (24 + o)) here
       ∙ le-append-after w (sizesBytes g) r 24 o (length-sizes g)
 
-  part-rest : (n : ℕ) → n ≤ 18 → part t magicAt n ≡ take n r
+  part-rest : (n : ℕ) → n ≤ 18 → part t (magicAt (g .edition)) n ≡ take n r
   part-rest n h =
-      sym (part-part t superBlockAt 42 24 n (omega arith))
+      sym (part-part t (superBlockAt (g .edition)) 42 24 n (omega arith))
       ∙ ap (λ (p : List ℕ). part p 24 n) here
       ∙ part-append (sizesBytes g) r 24 n (length-sizes g)
 
   pub geometry-read : g .dataBlocks < 2 ^ 64 → g .indexBytes < 2 ^ 64
       → le 1 r 3 ≡ g .version → le 8 r 4 ≡ g .total → le 4 r 12 ≡ g .reserved → le 1 r 16 ≡ g .blockField
-      → geometryOf t ≡ asStored g
+      → geometryOf (g .edition) t ≡ asStored g
   unfolding geometryOf asStored withStamp storedStamp stampIn
   geometry-read d i v n k b =
       rw (
-        byte-le t versionAt,
-        byte-le t blockFieldAt,
-        read-sizes 8 0 (omega arith) ∙ sizes-stamp g,
+        byte-le t (versionAt (g .edition)),
+        byte-le t (blockFieldAt (g .edition)),
+        le-here 8 t _ ∙ read-sizes 8 0 (omega arith) ∙ sizes-stamp g,
         read-sizes 8 8 (omega arith) ∙ sizes-data g d,
         read-sizes 8 16 (omega arith) ∙ sizes-index g i,
         read-rest 1 3 (omega arith) ∙ v,
@@ -268,8 +280,8 @@ pub sealed-checks : (g : Geometry) → checks (sealedBytes g) ≡ true
 unfolding sealedBytes
 sealed-checks g = checks-sealed (summedBytes g)
 
-module _ (t : List ℕ) (g : Geometry) (here : part t superBlockAt 42 ≡ superBlockBytes g) where
-  behind : part t superBlockAt 42 ≡ sizesBytes g ++ sealedBytes g
+module _ (t : List ℕ) (g : Geometry) (here : part t (superBlockAt (g .edition)) 42 ≡ superBlockBytes g) where
+  behind : part t (superBlockAt (g .edition)) 42 ≡ sizesBytes g ++ sealedBytes g
   unfolding sealedBytes superBlockBytes
   behind = here
 
@@ -278,7 +290,7 @@ module _ (t : List ℕ) (g : Geometry) (here : part t superBlockAt 42 ≡ superB
   read-summed w o h = le-append-before w (summedBytes g) (checksumOf (summedBytes g) ∷ []) o (omega (arith, length-summed g))
 
   -- its geometry reads as it was written
-  pub written-geometry : FieldsFit g → geometryOf t ≡ asStored g
+  pub written-geometry : FieldsFit g → geometryOf (g .edition) t ≡ asStored g
   written-geometry fit =
       geometry-read t g (sealedBytes g) behind (fit .data-fit) (fit .index-fit)
       (read-summed 1 3 (omega arith) ∙ summed-version g)
@@ -286,32 +298,36 @@ module _ (t : List ℕ) (g : Geometry) (here : part t superBlockAt 42 ≡ superB
       (read-summed 4 12 (omega arith) ∙ summed-reserved g (fit .reserved-fit))
       (read-summed 1 16 (omega arith) ∙ summed-field g)
 
-  pub written-version : byteAt t versionAt ≡ g .version
-  written-version = byte-le t versionAt ∙ read-rest t g (sealedBytes g) behind 1 3 (omega arith) ∙ read-summed 1 3 (omega arith) ∙ summed-version g
+  pub written-total : g .total < 2 ^ 64 → le 8 t (totalAt (g .edition)) ≡ g .total
+  written-total h = read-rest t g (sealedBytes g) behind 8 4 (omega arith) ∙ read-summed 8 4 (omega arith) ∙ summed-total g h
 
-  pub written-sealed : part t magicAt sealedLength ≡ sealedBytes g
+  pub written-version : byteAt t (versionAt (g .edition)) ≡ g .version
+  written-version = byte-le t (versionAt (g .edition)) ∙ read-rest t g (sealedBytes g) behind 1 3 (omega arith) ∙ read-summed 1 3 (omega arith) ∙ summed-version g
+
+  pub written-sealed : part t (magicAt (g .edition)) sealedLength ≡ sealedBytes g
   written-sealed = part-rest t g (sealedBytes g) behind 18 (omega arith) ∙ take-all 18 (sealedBytes g) (omega (arith, length-sealed g))
 
-  pub written-magic : part t magicAt 3 ≡ magic
+  pub written-magic : part t (magicAt (g .edition)) 3 ≡ magic
   unfolding sealedBytes summedBytes
   written-magic = part-rest t g (sealedBytes g) behind 3 (omega arith)
 
 -- ---- what is read of it depends on its bytes alone
 -- the fields that the checksum seals: no call changes them but a format
 pub record SameSealed (g h : Geometry) : Type 0 where
+  pub edition-same : g .edition ≡ h .edition
   pub version-same : g .version ≡ h .version
   pub total-same : g .total ≡ h .total
   pub reserved-same : g .reserved ≡ h .reserved
   pub field-same : g .blockField ≡ h .blockField
 
 pub same-self : (g : Geometry) → SameSealed g g
-same-self g = record { version-same = refl; total-same = refl; reserved-same = refl; field-same = refl }
+same-self g = record { edition-same = refl; version-same = refl; total-same = refl; reserved-same = refl; field-same = refl }
 
 -- they stay where the sizes and the stamp change
 module _ (g h : Geometry) (same : SameSealed g h) where
   same-kept : (z : ℤ) (d i : ℕ)
-      → SameSealed (record { stamp = z; dataBlocks = d; indexBytes = i; version = g .version; total = g .total; reserved = g .reserved; blockField = g .blockField }) h
-  same-kept z d i = record { version-same = same .version-same; total-same = same .total-same; reserved-same = same .reserved-same; field-same = same .field-same }
+      → SameSealed (record { edition = g .edition; stamp = z; dataBlocks = d; indexBytes = i; version = g .version; total = g .total; reserved = g .reserved; blockField = g .blockField }) h
+  same-kept z d i = record { edition-same = same .edition-same; version-same = same .version-same; total-same = same .total-same; reserved-same = same .reserved-same; field-same = same .field-same }
 
   pub same-grow : (bytes : ℕ) → SameSealed (growIndex g bytes) h
   unfolding growIndex withIndex
@@ -333,27 +349,28 @@ module _ (g h : Geometry) (same : SameSealed g h) where
 shared : (w : ℕ) (s t : List ℕ) (at n o : ℕ) → part s at n ≡ part t at n → o + w ≤ n → le w s (at + o) ≡ le w t (at + o)
 shared w s t at n o e h = sym (le-part w s at n o h) ∙ ap (λ (p : List ℕ). le w p o) e ∙ le-part w t at n o h
 
-pub sealed-same : (s t : List ℕ) → part s magicAt sealedLength ≡ part t magicAt sealedLength → SameSealed (geometryOf s) (geometryOf t)
+pub sealed-same : (ed : Edition) (s t : List ℕ) → part s (magicAt ed) sealedLength ≡ part t (magicAt ed) sealedLength → SameSealed (geometryOf ed s) (geometryOf ed t)
 unfolding geometryOf
-sealed-same s t e = record {
-  version-same = byte-le s versionAt ∙ shared 1 s t magicAt 18 3 e (omega arith) ∙ sym (byte-le t versionAt);
-  total-same = shared 8 s t magicAt 18 4 e (omega arith);
-  reserved-same = shared 4 s t magicAt 18 12 e (omega arith);
-  field-same = byte-le s blockFieldAt ∙ shared 1 s t magicAt 18 16 e (omega arith) ∙ sym (byte-le t blockFieldAt);
+sealed-same ed s t e = record {
+  edition-same = refl;
+  version-same = byte-le s (versionAt ed) ∙ shared 1 s t (magicAt ed) 18 3 e (omega arith) ∙ sym (byte-le t (versionAt ed));
+  total-same = shared 8 s t (magicAt ed) 18 4 e (omega arith);
+  reserved-same = shared 4 s t (magicAt ed) 18 12 e (omega arith);
+  field-same = byte-le s (blockFieldAt ed) ∙ shared 1 s t (magicAt ed) 18 16 e (omega arith) ∙ sym (byte-le t (blockFieldAt ed));
 }
 
-module _ (s t : List ℕ) (same : part s superBlockAt 42 ≡ part t superBlockAt 42) where
-  pub sealed-part : part s magicAt sealedLength ≡ part t magicAt sealedLength
-  sealed-part = sym (part-part s superBlockAt 42 24 18 (omega arith)) ∙ ap (λ (p : List ℕ). part p 24 18) same ∙ part-part t superBlockAt 42 24 18 (omega arith)
+module _ (ed : Edition) (s t : List ℕ) (same : part s (superBlockAt ed) 42 ≡ part t (superBlockAt ed) 42) where
+  pub sealed-part : part s (magicAt ed) sealedLength ≡ part t (magicAt ed) sealedLength
+  sealed-part = sym (part-part s (superBlockAt ed) 42 24 18 (omega arith)) ∙ ap (λ (p : List ℕ). part p 24 18) same ∙ part-part t (superBlockAt ed) 42 24 18 (omega arith)
 
-  pub geometry-same : geometryOf s ≡ geometryOf t
+  pub geometry-same : geometryOf ed s ≡ geometryOf ed t
   unfolding geometryOf stampIn
   geometry-same =
-      let b = sealed-same s t sealed-part in
+      let b = sealed-same ed s t sealed-part in
       rw (
-        shared 8 s t superBlockAt 42 0 same (omega arith),
-        shared 8 s t superBlockAt 42 8 same (omega arith),
-        shared 8 s t superBlockAt 42 16 same (omega arith),
+        le-here 8 s _ ∙ shared 8 s t (superBlockAt ed) 42 0 same (omega arith) ∙ sym (le-here 8 t _),
+        shared 8 s t (superBlockAt ed) 42 8 same (omega arith),
+        shared 8 s t (superBlockAt ed) 42 16 same (omega arith),
         b .version-same,
         b .total-same,
         b .reserved-same,
@@ -361,40 +378,40 @@ module _ (s t : List ℕ) (same : part s superBlockAt 42 ≡ part t superBlockAt
       )
 
 -- a writing at or past its end leaves it
-pub super-frame : (s : List ℕ) (at : ℕ) (bs : List ℕ) → superBlockAt + 42 ≤ at → at + length bs ≤ length s → part (splice s at bs) superBlockAt 42 ≡ part s superBlockAt 42
-super-frame s at bs l h = part-splice-before s at bs h superBlockAt 42 l
+pub super-frame : (ed : Edition) (s : List ℕ) (at : ℕ) (bs : List ℕ) → (superBlockAt ed) + 42 ≤ at → at + length bs ≤ length s → part (splice s at bs) (superBlockAt ed) 42 ≡ part s (superBlockAt ed) 42
+super-frame ed s at bs l h = part-splice-before s at bs h (superBlockAt ed) 42 l
 
 -- ---- sizes written
-module _ (s : List ℕ) (g : Geometry) (room : superBlockAt + 42 ≤ length s) where
-  sizes-room : superBlockAt + length (sizesBytes g) ≤ length s
+module _ (s : List ℕ) (g : Geometry) (room : (superBlockAt (g .edition)) + 42 ≤ length s) where
+  sizes-room : (superBlockAt (g .edition)) + length (sizesBytes g) ≤ length s
   sizes-room = omega (arith, length-sizes g)
 
   pub length-putSizes : length (putSizes s g) ≡ length s
   unfolding putSizes
-  length-putSizes = length-splice s superBlockAt (sizesBytes g) sizes-room
+  length-putSizes = length-splice s (superBlockAt (g .edition)) (sizesBytes g) sizes-room
 
   -- all else is left
-  pub putSizes-before : (a n : ℕ) → a + n ≤ superBlockAt → part (putSizes s g) a n ≡ part s a n
+  pub putSizes-before : (a n : ℕ) → a + n ≤ (superBlockAt (g .edition)) → part (putSizes s g) a n ≡ part s a n
   unfolding putSizes
-  putSizes-before a n h = part-splice-before s superBlockAt (sizesBytes g) sizes-room a n h
+  putSizes-before a n h = part-splice-before s (superBlockAt (g .edition)) (sizesBytes g) sizes-room a n h
 
-  pub putSizes-after : (a n : ℕ) → magicAt ≤ a → part (putSizes s g) a n ≡ part s a n
+  pub putSizes-after : (a n : ℕ) → (magicAt (g .edition)) ≤ a → part (putSizes s g) a n ≡ part s a n
   unfolding putSizes
-  putSizes-after a n h = part-splice-after s superBlockAt (sizesBytes g) sizes-room a n (omega (arith, length-sizes g))
+  putSizes-after a n h = part-splice-after s (superBlockAt (g .edition)) (sizesBytes g) sizes-room a n (omega (arith, length-sizes g))
 
-  putSizes-here : part (putSizes s g) superBlockAt 42 ≡ sizesBytes g ++ part s magicAt 18
+  putSizes-here : part (putSizes s g) (superBlockAt (g .edition)) 42 ≡ sizesBytes g ++ part s (magicAt (g .edition)) 18
   unfolding putSizes
-  putSizes-here = rw length-sizes at (part-splice-from s superBlockAt (sizesBytes g) sizes-room 18)
+  putSizes-here = rw length-sizes at (part-splice-from s (superBlockAt (g .edition)) (sizesBytes g) sizes-room 18)
 
   -- where only the sizes and the stamp differ, all of the geometry is then g's
-  pub putSizes-geometry : g .dataBlocks < 2 ^ 64 → g .indexBytes < 2 ^ 64 → SameSealed g (geometryOf s) → geometryOf (putSizes s g) ≡ asStored g
+  pub putSizes-geometry : g .dataBlocks < 2 ^ 64 → g .indexBytes < 2 ^ 64 → SameSealed g (geometryOf (g .edition) s) → geometryOf (g .edition) (putSizes s g) ≡ asStored g
   unfolding geometryOf
   putSizes-geometry d i same =
-      geometry-read (putSizes s g) g (part s magicAt 18) putSizes-here d i
-      (le-part 1 s magicAt 18 3 (omega arith) ∙ sym (byte-le s versionAt) ∙ sym (same .version-same))
-      (le-part 8 s magicAt 18 4 (omega arith) ∙ sym (same .total-same))
-      (le-part 4 s magicAt 18 12 (omega arith) ∙ sym (same .reserved-same))
-      (le-part 1 s magicAt 18 16 (omega arith) ∙ sym (byte-le s blockFieldAt) ∙ sym (same .field-same))
+      geometry-read (putSizes s g) g (part s (magicAt (g .edition)) 18) putSizes-here d i
+      (le-part 1 s (magicAt (g .edition)) 18 3 (omega arith) ∙ sym (byte-le s (versionAt (g .edition))) ∙ sym (same .version-same))
+      (le-part 8 s (magicAt (g .edition)) 18 4 (omega arith) ∙ sym (same .total-same))
+      (le-part 4 s (magicAt (g .edition)) 18 12 (omega arith) ∙ sym (same .reserved-same))
+      (le-part 1 s (magicAt (g .edition)) 18 16 (omega arith) ∙ sym (byte-le s (blockFieldAt (g .edition))) ∙ sym (same .field-same))
 
 -- ---- the field of a number of bytes per block
 some-is : {x y : ℕ} → some x ≡ some y → x ≡ y

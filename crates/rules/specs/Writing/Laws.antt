@@ -8,6 +8,7 @@ use lib.ListN.{length}
 use lib.Dec.{leb}
 use lib.IntN.{ℤ}
 use Rattle.rules.specs.Lists.{only, first, isSome}
+use Rattle.rules.specs.Editions.{versionNamed, editionNamed}
 use Rattle.rules.specs.SuperBlock.{Geometry, lengthGood, fieldOf, geometryGood, trimData, restamp, putSizes, writable}
 use Rattle.rules.specs.Names.{pathGood, newPathGood, volumeNameGood, leading}
 use Rattle.rules.specs.Index.{Entry, slotAt}
@@ -16,7 +17,7 @@ use Rattle.rules.specs.Refusals.{refused, accepted, Volume, entries, jud
 use Rattle.rules.specs.Refusals.Laws.{need-true, need-false, found-none, found-some}
 use Rattle.rules.specs.Outcome.{done}
 use Rattle.rules.specs.Outcome.Laws.{denied, conclude-refused, conclude-accepted, volume-refused, volume-denied, volume-done}
-use Rattle.rules.specs.Writing.{Written, New, formatOf, freshGeometry, formatted, createOf, nearestLive, newSlots, newBlocks, Place, placeRun, placeFile, siteOf, created, deleteOf, deleted, restoreOf, restored, reclaimOf, undeleted, leastEnd, cleared}
+use Rattle.rules.specs.Writing.{Written, New, tidied, formatOf, freshGeometry, formatted, createOf, nearestLive, newSlots, newBlocks, Place, placeRun, placeFile, siteOf, created, deleteOf, deleted, restoreOf, restored, reclaimOf, undeleted, leastEnd, cleared}
 
 abbrev pub refusedWrite : List ℕ → ℕ → Written
 refusedWrite s n = denied tt s [] n
@@ -24,30 +25,43 @@ refusedWrite s n = denied tt s [] n
 abbrev pub wrote : List ℕ → Written
 wrote t = done tt t []
 
+-- the image that an accepted call begins with
+abbrev pub tidyImage : List ℕ → Volume → List ℕ
+tidyImage s v = tidied s (v .geometry) (v .items)
+
 -- ---- format
-module _ (s : List ℕ) (bytes reserved : ℕ) (name : List ℕ) (stamp : ℤ) where
-  pub format-length : lengthGood (length s) ≡ false → formatOf s bytes reserved name stamp ≡ refusedWrite s 1
+module _ (s : List ℕ) (version bytes reserved : ℕ) (name : List ℕ) (stamp : ℤ) where
+  pub format-length : lengthGood (length s) ≡ false → formatOf s version bytes reserved name stamp ≡ refusedWrite s 1
   unfolding formatOf
   format-length l = conclude-refused tt s [] 1 (need-false 1 _ l)
 
   module _ (l : lengthGood (length s) ≡ true) where
-    pub format-block : fieldOf bytes ≡ none → formatOf s bytes reserved name stamp ≡ refusedWrite s 5
+    pub format-version : versionNamed version ≡ false → formatOf s version bytes reserved name stamp ≡ refusedWrite s 5
     unfolding formatOf
-    format-block f = conclude-refused tt s [] 5 (need-true 1 _ l ∙ found-none 5 _ f)
+    format-version w = conclude-refused tt s [] 5 (need-true 1 _ l ∙ need-false 5 _ w)
 
-    module _ (b : ℕ) (f : fieldOf bytes ≡ some b) where
-      pub format-geometry : geometryGood (length s) (freshGeometry (length s) b reserved stamp) ≡ false → formatOf s bytes reserved name stamp ≡ refusedWrite s 5
+    module _ (w : versionNamed version ≡ true) where
+      pub format-block : fieldOf bytes ≡ none → formatOf s version bytes reserved name stamp ≡ refusedWrite s 5
       unfolding formatOf
-      format-geometry g = conclude-refused tt s [] 5 (need-true 1 _ l ∙ found-some 5 _ f ∙ need-false 5 _ g)
+      format-block f = conclude-refused tt s [] 5 (need-true 1 _ l ∙ need-true 5 _ w ∙ found-none 5 _ f)
 
-      module _ (g : geometryGood (length s) (freshGeometry (length s) b reserved stamp) ≡ true) where
-        pub format-name : volumeNameGood name ≡ false → formatOf s bytes reserved name stamp ≡ refusedWrite s 10
-        unfolding formatOf
-        format-name n = conclude-refused tt s [] 10 (need-true 1 _ l ∙ found-some 5 _ f ∙ need-true 5 _ g ∙ need-false 10 _ n)
+      module _ (b : ℕ) (f : fieldOf bytes ≡ some b) where
+        -- the geometry that results
+        abbrev pub fresh : Geometry
+        fresh = freshGeometry (editionNamed version) (length s) b reserved stamp
 
-        pub format-done : volumeNameGood name ≡ true → formatOf s bytes reserved name stamp ≡ wrote (formatted s (freshGeometry (length s) b reserved stamp) name)
+        pub format-geometry : geometryGood (length s) fresh ≡ false → formatOf s version bytes reserved name stamp ≡ refusedWrite s 5
         unfolding formatOf
-        format-done n = conclude-accepted tt s [] _ (need-true 1 _ l ∙ found-some 5 _ f ∙ need-true 5 _ g ∙ need-true 10 _ n)
+        format-geometry g = conclude-refused tt s [] 5 (need-true 1 _ l ∙ need-true 5 _ w ∙ found-some 5 _ f ∙ need-false 5 _ g)
+
+        module _ (g : geometryGood (length s) fresh ≡ true) where
+          pub format-name : volumeNameGood name ≡ false → formatOf s version bytes reserved name stamp ≡ refusedWrite s 10
+          unfolding formatOf
+          format-name n = conclude-refused tt s [] 10 (need-true 1 _ l ∙ need-true 5 _ w ∙ found-some 5 _ f ∙ need-true 5 _ g ∙ need-false 10 _ n)
+
+          pub format-done : volumeNameGood name ≡ true → formatOf s version bytes reserved name stamp ≡ wrote (formatted s fresh name)
+          unfolding formatOf
+          format-done n = conclude-accepted tt s [] _ (need-true 1 _ l ∙ need-true 5 _ w ∙ found-some 5 _ f ∙ need-true 5 _ g ∙ need-true 10 _ n)
 
 -- ---- an image that does not open
 module _ (s : List ℕ) (n : ℕ) (bad : judge s ≡ refused n) where
@@ -108,12 +122,12 @@ module _ (s : List ℕ) (v : Volume) (opens : judge s ≡ accepted v) where
           create-orphan d = volume-denied tt s [] _ v 13 opens (need-true 9 _ may ∙ need-true 10 _ p ∙ need-true 12 _ free ∙ need-false 13 _ d)
 
           module _ (d : nearestLive (entries v) (leading path) ≡ true) where
-            pub create-slots : placeRun (length s) v (newSlots new path) ≡ none → createOf s new path stamp ≡ refusedWrite s 15
+            pub create-slots : placeRun (length s) v path (newSlots (v .geometry .edition) new path) ≡ none → createOf s new path stamp ≡ refusedWrite s 15
             unfolding createOf
             create-slots r =
                 volume-denied tt s [] _ v 15 opens (need-true 9 _ may ∙ need-true 10 _ p ∙ need-true 12 _ free ∙ need-true 13 _ d ∙ found-none 15 _ r)
 
-            module _ (q : Place) (r : placeRun (length s) v (newSlots new path) ≡ some q) where
+            module _ (q : Place) (r : placeRun (length s) v path (newSlots (v .geometry .edition) new path) ≡ some q) where
               pub create-blocks : placeFile (length s) (q .geometry) (entries v) (newBlocks (v .geometry) new) ≡ none
                   → createOf s new path stamp ≡ refusedWrite s 16
               unfolding createOf
@@ -123,7 +137,7 @@ module _ (s : List ℕ) (v : Volume) (opens : judge s ≡ accepted v) where
 
               pub create-done : (start : ℕ)
                   → placeFile (length s) (q .geometry) (entries v) (newBlocks (v .geometry) new) ≡ some start
-                  → createOf s new path stamp ≡ wrote (created s (siteOf v new path stamp q start) new path stamp)
+                  → createOf s new path stamp ≡ wrote (created (tidyImage s v) (siteOf v new path stamp q start) new path stamp)
               unfolding createOf
               create-done start b =
                   volume-done tt s [] _ v _ opens
@@ -144,7 +158,7 @@ module _ (s : List ℕ) (v : Volume) (opens : judge s ≡ accepted v) where
           unfolding deleteOf
           delete-full b = volume-denied tt s [] _ v 14 opens (need-true 9 _ may ∙ need-true 10 _ p ∙ found-some 11 _ f ∙ need-false 14 _ (rw b))
 
-          pub delete-done : anyBelow path (entries v) ≡ false → deleteOf s path stamp ≡ wrote (deleted s (slotAt s (v .geometry) (e .slot)) e stamp)
+          pub delete-done : anyBelow path (entries v) ≡ false → deleteOf s path stamp ≡ wrote (deleted (v .geometry .edition) (tidyImage s v) (slotAt (tidyImage s v) (v .geometry) (e .slot)) e stamp)
           unfolding deleteOf
           delete-done b = volume-done tt s [] _ v _ opens (need-true 9 _ may ∙ need-true 10 _ p ∙ found-some 11 _ f ∙ need-true 14 _ (rw b))
 
@@ -177,7 +191,7 @@ module _ (s : List ℕ) (v : Volume) (opens : judge s ≡ accepted v) where
                   (need-true 9 _ may ∙ need-true 10 _ p ∙ found-some 11 _ f ∙ need-true 12 _ (rw l) ∙ need-true 13 _ d ∙ need-false 19 _ n)
 
               pub restore-done : leb (length (only (deletedAt path) (entries v))) 1 ≡ true
-                  → restoreOf s path stamp ≡ wrote (restored s (slotAt s (v .geometry) (e .slot)) e stamp)
+                  → restoreOf s path stamp ≡ wrote (restored (v .geometry .edition) (tidyImage s v) (slotAt (tidyImage s v) (v .geometry) (e .slot)) e stamp)
               unfolding restoreOf
               restore-done n =
                   volume-done tt s [] _ v _ opens
@@ -185,6 +199,6 @@ module _ (s : List ℕ) (v : Volume) (opens : judge s ≡ accepted v) where
 
     pub reclaim-done : (stamp : ℤ)
         → let g : Geometry = restamp (v .geometry) (trimData (v .geometry) (leastEnd (undeleted (entries v)))) stamp in
-        reclaimOf s stamp ≡ wrote (cleared isDeleted (putSizes s g) g (entries v))
+        reclaimOf s stamp ≡ wrote (cleared isDeleted (putSizes (tidyImage s v) g) g (entries v))
     unfolding reclaimOf
     reclaim-done stamp = volume-done tt s [] _ v _ opens (need-true 9 _ may)

@@ -1,33 +1,19 @@
 use Prim.Native.Nat.{_-_}
 use mathlib.Core.Path.{_≡_, _∙_}
 use native.Mathlib.Omega.{arith}
+use denote.Ref.{now}
+use Rattle.editions.specs.View.{editionView}
+use Rattle.runs.specs.Sealed.{bare-sealed}
 use borrow.Author.Needs.{needs}
 use Rattle.runs.proofs.put_bare.Statement.{statement}
 use Rattle.runs.proofs.put_bare.Tie as tie
 
-after-slots-requires : tie.Need-after-slots-requires
-after-slots-requires c κs = search needs
-
-slice-aggregate-write-part : tie.Need-slice-aggregate-write-part
-slice-aggregate-write-part c = search needs
-
-write-part-requires : tie.Need-write-part-requires
-write-part-requires c κs = search needs
-
-same-length : tie.Need-same-length
-same-length c = search needs
-
 returns : tie.Need-returns
-returns c = let x = c .before .before .before .before .before .before .before in
-    let w : c .before .before .before .before .after-slots .result .0 - x .args .at .0 ≡ 64 = omega arith in
-    c .before .before .write-part .ensures ∙ rw w
+returns c =
+    let p = c .before .before .before .before .before .before in
+    let a = p .before .before .before .before .before .args in
+    let w : p .before .before .after-slots .result .0 - a .at .0 ≡ 64 = omega arith in
+    bare-sealed (editionView (a .ed)) (now (a .img)) (a .at .0) (a .kind) (p .before .before .before .before .before .pre) _ _ (p .write-part .ensures ∙ rw w) (c .before .before .seal .ensures)
 
 pub put-bare-spec : {M : Type 1} → statement M
-put-bare-spec =
-    tie.close
-    (tie.spec
-    after-slots-requires
-    slice-aggregate-write-part
-    write-part-requires
-    same-length
-    returns)
+put-bare-spec = tie.close (tie.spec (λ c κs. search needs) (λ c. search needs) (λ c κs. search needs) (λ c κs. search needs) (λ c. search needs) returns)

@@ -19,7 +19,7 @@ returns : tie.Need-returns
 returns c =
     let a = c .before .before .before .before .before .before .before in
     c .before .before .format .ensures
-    ∙ ap (formatOf (now (a .args .image)) (a .args .bytes-per-block) (a .args .reserved) (now (a .args .name))) (stamp-is (a .args .stamp) _ (a .fits .stamp) (c .before .before .before .to-bits .ensures))
+    ∙ ap (formatOf (now (a .args .image)) (a .args .version) (a .args .bytes-per-block) (a .args .reserved) (now (a .args .name))) (stamp-is (a .args .stamp) _ (a .fits .stamp) (c .before .before .before .to-bits .ensures))
 
 pub sfs-format-spec : {M : Type 1} → statement M
 sfs-format-spec = tie.close (tie.spec to-bits-requires format-requires same-length returns)

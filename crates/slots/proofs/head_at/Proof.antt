@@ -22,7 +22,7 @@ returns : tie.Need-returns
 returns c = let x = c .before .before .before .before .before in
     let a = x .args in
     let t = sym (ap runType (c .before .before .before .kind-at .ensures)) ∙ sym (c .before .before .is-run .ensures) ∙ c .before .if1 .taken in
-    (c .run-head .ensures .0 ∙ sym (head-run (a .slot .0) _ (ap runType (type-drop (now (a .img)) (a .at .0)) ∙ t)), c .run-head .ensures .1)
+    (c .run-head .ensures .0 ∙ sym (head-run _ (a .slot .0) _ (ap runType (type-drop (now (a .img)) (a .at .0)) ∙ t)), c .run-head .ensures .1)
 
 after-requires : tie.Need-after-requires
 after-requires c κs = search needs
@@ -47,10 +47,10 @@ returns-2 c = let x = c .before .before .before .before .before .before in
     let a = x .before .before .before .before .args in
     let s = now (a .img) in
     let t = sym (ap runType (x .before .before .kind-at .ensures)) ∙ sym (x .before .is-run .ensures) ∙ x .if1 .left in (
-      unusable-view s (a .at .0) (a .slot .0) _ refl refl t refl refl refl
+      unusable-view _ s (a .at .0) (a .slot .0) _ refl refl refl t refl refl refl
           (c .before .before .before .at .ensures ∙ c .before .before .before .before .le64-at .ensures ∙ ap (le 8 s) (c .before .before .before .before .before .after .ensures))
           (c .at2 .ensures ∙ c .before .le64-at2 .ensures ∙ ap (le 8 s) (c .before .before .after2 .ensures)) refl,
-      (refl, omega arith),
+      (refl, refl, omega arith),
     )
 
 pub head-at-spec : {M : Type 1} → statement M

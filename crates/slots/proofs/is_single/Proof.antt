@@ -9,10 +9,12 @@ use Rattle.slots.proofs.is_single.Statement.{statement}
 use Rattle.slots.proofs.is_single.Tie as tie
 
 returns : tie.Need-returns
-returns c e k =
+returns c =
     let i = c .before in
-    let a = i .before .before .before .args in
-    one-by-count (now (a .img)) (a .at .0) k (sym (ap (λ (j : ℕ). getD (now (a .img)) j 0) (i .index .ensures ∙ i .before .after .ensures)) ∙ eqb-true _ 0 e)
+    let m = i .before .before in
+    let a = m .before .before .args in
+    let place = i .index .ensures ∙ i .before .after .ensures in
+    λ e left. one-by-count _ (now (a .img)) (a .at .0) _ (m .sum-length .ensures .0) (sym (ap (λ (j : ℕ). getD (now (a .img)) j 0) place) ∙ eqb-true _ 0 e) left
 
 pub is-single-spec : {M : Type 1} → statement M
-is-single-spec = tie.close (tie.spec (λ c κs. search needs) (λ c κs. search needs) (λ c. search needs) returns)
+is-single-spec = tie.close (tie.spec (λ c κs. search needs) (λ c. search needs) (λ c κs. search needs) (λ c κs. search needs) (λ c. search needs) returns)

@@ -1,4 +1,5 @@
 use mathlib.Core.Path.{ap, _∙_}
+use Rattle.editions.specs.View.{editionView}
 use native.Mathlib.Omega.{arith}
 use denote.Ref.{now}
 use lib.ListN.{drop}
@@ -9,7 +10,7 @@ use Rattle.slots.proofs.name_field.Statement.{statement}
 use Rattle.slots.proofs.name_field.Tie as tie
 
 kind-at-requires : tie.Need-kind-at-requires
-kind-at-requires c κs = omega (arith, slots-low (drop (c .before .args .at .0) (now (c .before .args .img))))
+kind-at-requires c κs = omega (arith, slots-low (editionView (c .before .args .ed)) (drop (c .before .args .at .0) (now (c .before .args .img))))
 
 name-at-requires : tie.Need-name-at-requires
 name-at-requires c κs = search needs
@@ -18,7 +19,7 @@ after-requires : tie.Need-after-requires
 after-requires c κs = search needs
 
 slots-at-requires : tie.Need-slots-at-requires
-slots-at-requires c κs = let a = c .before .before .before .before .args in omega (arith, slots-low (drop (a .at .0) (now (a .img))))
+slots-at-requires c κs = let a = c .before .before .before .before .args in omega (arith, slots-low (editionView (a .ed)) (drop (a .at .0) (now (a .img))))
 
 after-slots-requires : tie.Need-after-slots-requires
 after-slots-requires c κs = search needs
@@ -42,7 +43,7 @@ returns : tie.Need-returns
 returns c = let e = c .before .before .before .before in
     let n = e .before .before in
     let a = n .before .before .before .args in
-    field-read (now (a .img)) (a .at .0) _ _ _ _ (e .slots-at .ensures .0) (n .name-at .ensures .0 ∙ ap nameAt (n .before .kind-at .ensures))
+    field-read _ (now (a .img)) (a .at .0) _ _ _ _ (e .slots-at .ensures .0) (n .name-at .ensures .0 ∙ ap (nameAt _) (n .before .kind-at .ensures))
     (c .before .before .index .ensures ∙ e .before .after .ensures)
     (c .before .index2 .ensures ∙ c .before .before .before .after-slots .ensures)
 

@@ -11,7 +11,7 @@ use Rattle.slots.proofs.path_of.Statement.{statement}
 use Rattle.slots.proofs.path_of.Tie as tie
 
 name-field-requires : tie.Need-name-field-requires
-name-field-requires c κs = field-fits (now (c .before .args .img)) _ _ _ (c .before .pre .0) (c .before .pre .1)
+name-field-requires c κs = field-fits _ (now (c .before .args .img)) _ _ _ (c .before .pre .0) (c .before .pre .1)
 
 zero-at-requires : tie.Need-zero-at-requires
 zero-at-requires c κs = search needs
@@ -25,7 +25,7 @@ returns c = let x = c .before .before .before .before in
     let f = now (c .before .before .name-field .result) in
     ap (λ (n : ℕ). take n f) (c .before .zero-at .ensures .0) ∙ sym (upToZero-take f)
     ∙ ap upToZero (c .before .before .name-field .ensures)
-    ∙ sym (path-is (now (x .args .img)) _ _ _ (x .pre .0) (x .pre .1))
+    ∙ sym (path-is _ (now (x .args .img)) _ _ _ (x .pre .0) (x .pre .1))
 
 pub path-of-spec : {M : Type 1} → statement M
 path-of-spec =

@@ -11,8 +11,13 @@ use Rattle.slots.proofs.slots_at.Tie as tie
 returns : tie.Need-returns
 returns c =
     let i = c .before .before in
-    let a = i .before .before .before .args in
-    (slots-read (now (a .img)) (a .at .0) _ (c .wide .ensures .0 ∙ ap (λ (j : ℕ). getD (now (a .img)) j 0) (i .index .ensures ∙ i .before .after .ensures)), omega arith, omega (arith, c .wide .ensures .1))
+    let m = i .before .before in
+    let a = m .before .before .args in
+    let place = i .index .ensures ∙ i .before .after .ensures in (
+      slots-read _ (now (a .img)) (a .at .0) _ _ (m .sum-length .ensures .0) (c .wide .ensures .0 ∙ ap (λ (j : ℕ). getD (now (a .img)) j 0) place),
+      omega arith,
+      omega (arith, c .wide .ensures .1),
+    )
 
 pub slots-at-spec : {M : Type 1} → statement M
-slots-at-spec = tie.close (tie.spec (λ c κs. search needs) (λ c κs. search needs) (λ c. search needs) (λ c κs. search needs) (λ c. search needs) returns)
+slots-at-spec = tie.close (tie.spec (λ c κs. search needs) (λ c. search needs) (λ c κs. search needs) (λ c κs. search needs) (λ c. search needs) (λ c κs. search needs) (λ c. search needs) returns)

@@ -1,40 +1,40 @@
-use mathlib.Core.Path.{_≡_}
+use mathlib.Core.Path.{_≡_, refl}
 use native.Mathlib.Omega.{arith}
 use denote.Ref.{now}
 use Rattle.geometry.specs.View.{geometryView}
 use Prim.Native.Nat.{_+_, _-_, _/_}
 use lib.ListN.{length}
 use Rattle.super_block.specs.Ends.{first-items, first-inside}
-use borrow.Author.Needs.{needs}
 use Rattle.laws.proofs.Index.Slots.{slot-at}
+use borrow.Author.Needs.{needs}
 use Rattle.super_block.proofs.first_slot.Statement.{statement}
 use Rattle.super_block.proofs.first_slot.Tie as tie
 
-index-start-requires : tie.Need-index-start-requires
-index-start-requires c κs = search needs
-
-at-requires : tie.Need-at-requires
-at-requires c κs = search needs
-
-offset-requires : tie.Need-offset-requires
-offset-requires c κs = search needs
-
-slots-in-requires : tie.Need-slots-in-requires
-slots-in-requires c κs = search needs
-
-sub-t8 : tie.Need-sub-t8
-sub-t8 c = search needs
-
 returns : tie.Need-returns
-returns c = let x = c .before .before .before .before .before in
+returns c =
+    let t = c .before .before in
+    let n = t .before .before in
+    let x = n .before .before .before .before .before .before .before in
     let s = now (x .args .img) in
     let g = geometryView (x .args .g) in
-    let at : c .before .offset .result .0 ≡ length s - g .indexBytes + 64 = omega arith in
-    let left : c .slots-in .result - 2 ≡ g .indexBytes / 64 - 2 = omega arith in
-    let one = c .before .before .at .ensures in
-    (first-items s g _ at one left, first-inside s g _ (x .pre .good) (x .pre .short) at one left, omega (arith, at, one, slot-at s g (c .before .before .at .result .0)), omega (arith, left, x .pre .good .index-high), omega (arith, left))
+    let at : n .before .offset .result .0 ≡ length s - g .indexBytes + 64 = omega arith in
+    let left : n .slots-in .result - 2 ≡ g .indexBytes / 64 - 2 = omega arith in
+    let one = n .before .before .at .ensures in (
+      first-items s g _ refl at one left,
+      first-inside s g _ (x .pre .0 .good) (x .pre .0 .short) at one left,
+      omega (arith, at, one, slot-at s g (n .before .before .at .result .0)),
+      omega (arith, left, x .pre .0 .good .index-high),
+      omega (arith, left),
+      refl,
+      t .take .ensures,
+    )
+
+take-requires : tie.Need-take-requires
+take-requires c κs =
+    let x = c .before .before .before .before .before .before .before .before in
+    let one = c .before .before .before .at .ensures in
+    let g = x .pre .0 .good in
+    (omega (arith, g .index-high, g .index-fits), x .pre .0 .short, omega (arith, one, g .index-high, x .pre .1))
 
 pub first-slot-spec : {M : Type 1} → statement M
-first-slot-spec =
-    tie.close
-    (tie.spec index-start-requires at-requires offset-requires slots-in-requires sub-t8 returns)
+first-slot-spec = tie.close (tie.spec (λ c κs. search needs) (λ c κs. search needs) (λ c κs. search needs) (λ c κs. search needs) (λ c. search needs) take-requires (λ c. search needs) returns)

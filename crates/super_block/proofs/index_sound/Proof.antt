@@ -16,18 +16,15 @@ returns : tie.Need-returns
 unfolding indexSound
 returns c = sym (and-left _ _ (sym (c .before .are-good .ensures) ∙ not-true _ (c .if1 .taken)))
 
-first-slot-requires : tie.Need-first-slot-requires
-first-slot-requires c κs = search needs
-
 walk-sound-requires : tie.Need-walk-sound-requires
 walk-sound-requires c κs = search needs
 
 returns-2 : tie.Need-returns-2
 returns-2 c = let x = c .before .before .before .before .before in
-    let e = sym (c .before .before .before .are-good .ensures) ∙ not-false _ (c .before .before .if1 .left) in
-    c .walk-sound .ensures ∙ sym (sound-by (now (x .args .img)) (geometryView (x .args .g)) (c .before .first-slot .result) (c .before .first-slot .ensures .0) ∙ rw e)
+    let e = sym (c .before .before .are-good .ensures) ∙ not-false _ (c .before .if1 .left) in
+    c .walk-sound .ensures ∙ sym (sound-by (now (x .args .img)) (geometryView (x .args .g)) (x .args .from) (x .pre .1) ∙ rw e)
 
 pub index-sound-spec : {M : Type 1} → statement M
 index-sound-spec =
     tie.close
-    (tie.spec are-good-requires returns first-slot-requires walk-sound-requires returns-2)
+    (tie.spec are-good-requires returns walk-sound-requires returns-2)

@@ -1,63 +1,23 @@
-use Rattle.rules.specs.Fields.{stampIn, byteAt}
-use Rattle.rules.specs.SuperBlock.{geometryOf}
+use mathlib.Core.Path.{refl, ap, _∙_}
+use denote.Ref.{now}
+use Rattle.rules.specs.Fields.{le}
+use Rattle.super_block.specs.Tests.{geometry-by}
 use borrow.Author.Needs.{needs}
 use Rattle.super_block.proofs.read_geometry.Statement.{statement}
 use Rattle.super_block.proofs.read_geometry.Tie as tie
 
-at-requires : tie.Need-at-requires
-at-requires c κs = search needs
-
-le64-at-requires : tie.Need-le64-at-requires
-le64-at-requires c κs = search needs
-
-at-requires-2 : tie.Need-at-requires-2
-at-requires-2 c κs = search needs
-
-le64-at-requires-2 : tie.Need-le64-at-requires-2
-le64-at-requires-2 c κs = search needs
-
-at-requires-3 : tie.Need-at-requires-3
-at-requires-3 c κs = search needs
-
-le64-at-requires-3 : tie.Need-le64-at-requires-3
-le64-at-requires-3 c κs = search needs
-
-shared-slice-read-t9 : tie.Need-shared-slice-read-t9
-shared-slice-read-t9 c = search needs
-
-at-requires-4 : tie.Need-at-requires-4
-at-requires-4 c κs = search needs
-
-le64-at-requires-4 : tie.Need-le64-at-requires-4
-le64-at-requires-4 c κs = search needs
-
-at-requires-5 : tie.Need-at-requires-5
-at-requires-5 c κs = search needs
-
-le32-at-requires : tie.Need-le32-at-requires
-le32-at-requires c κs = search needs
-
-shared-slice-read-t15 : tie.Need-shared-slice-read-t15
-shared-slice-read-t15 c = search needs
-
 returns : tie.Need-returns
-unfolding geometryOf stampIn byteAt
-returns c = cc
+returns c =
+    let x = c .before .before .before .before .before .before .before .before .before .before .before .before .before in
+    let s = now (x .args .img) in
+    geometry-by _ s _ refl
+    (c .before .before .before .before .before .before .before .before .before .before .le64-at .ensures ∙ ap (le 8 s) (c .before .before .before .before .before .before .before .before .before .before .before .place .ensures .0))
+    (c .before .before .before .before .before .before .before .before .le64-at2 .ensures ∙ ap (le 8 s) (c .before .before .before .before .before .before .before .before .before .place2 .ensures .0))
+    (c .before .before .before .before .before .before .le64-at3 .ensures ∙ ap (le 8 s) (c .before .before .before .before .before .before .before .place3 .ensures .0))
+    (c .before .before .before .before .before .byte-at .ensures)
+    (c .before .before .before .le64-at4 .ensures ∙ ap (le 8 s) (c .before .before .before .before .place4 .ensures .0))
+    (c .before .le32-at .ensures ∙ ap (le 4 s) (c .before .before .place5 .ensures .0))
+    (c .byte-at2 .ensures)
 
 pub read-geometry-spec : {M : Type 1} → statement M
-read-geometry-spec =
-    tie.close
-    (tie.spec
-    at-requires
-    le64-at-requires
-    at-requires-2
-    le64-at-requires-2
-    at-requires-3
-    le64-at-requires-3
-    shared-slice-read-t9
-    at-requires-4
-    le64-at-requires-4
-    at-requires-5
-    le32-at-requires
-    shared-slice-read-t15
-    returns)
+read-geometry-spec = tie.close (tie.spec (λ c κs. search needs) (λ c κs. search needs) (λ c κs. search needs) (λ c κs. search needs) (λ c κs. search needs) (λ c κs. search needs) (λ c κs. search needs) (λ c κs. search needs) (λ c κs. search needs) (λ c κs. search needs) (λ c κs. search needs) (λ c κs. search needs) returns)

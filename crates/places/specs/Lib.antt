@@ -1,0 +1,4 @@
+pub mod Leads
+pub mod Slashes
+pub mod Before
+pub mod Cut
