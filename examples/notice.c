@@ -1,9 +1,9 @@
 /*
  * The same afternoon: a notice is deleted at ten and wanted at three. Until the volume is reclaimed it can come back, with its
  * bytes; which of two deleted notices is meant, the store does not guess.
- * Build: cc -o notice examples/notice.c target/staticlib/libsfs.a
+ * Build: cc -o notice notice.c $(pkg-config --cflags --libs sfs)
  */
-#include "../include/sfs.h"
+#include <sfs.h>
 
 #include <stdio.h>
 #include <stdlib.h>

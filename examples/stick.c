@@ -1,8 +1,8 @@
 /*
  * A branch's stick of edition 1.10: it is looked through, a notice is added, and an old one that is deleted makes room at once.
- * Build: cc -o stick examples/stick.c target/staticlib/libsfs.a
+ * Build: cc -o stick stick.c $(pkg-config --cflags --libs sfs)
  */
-#include "../include/sfs.h"
+#include <sfs.h>
 
 #include <inttypes.h>
 #include <stdio.h>
@@ -44,12 +44,12 @@ static void look(int hour) {
     static uint8_t path[256 * SFS_SLOT_BYTES]; /* other programs may write longer paths than SFS_PATH_MAX */
     uint8_t name[SFS_VOLUME_NAME_MAX];
     struct sfs_volume volume = sfs_open(stick, STICK_BYTES, name, sizeof name);
-    struct sfs_listed entry = {0};
+    uint64_t slot = 0;
     expect("open", volume.refusal);
     printf("%d:00 %.*s, edition %s\n", hour, (int)volume.name_length, (const char *)name,
            volume.edition == SFS_VERSION_1_10 ? "1.10" : "1.0");
     for (;;) {
-        entry = sfs_list(stick, STICK_BYTES, entry.slot + 1, path, sizeof path);
+        struct sfs_listed entry = sfs_list(stick, STICK_BYTES, slot, path, sizeof path);
         expect("list", entry.refusal);
         if (entry.kind == 0)
             return;
@@ -61,6 +61,7 @@ static void look(int hour) {
         else
             printf(": %" PRIu64 " bytes, blocks %" PRIu64 " to %" PRIu64 "\n", entry.length, entry.start,
                    last_block(volume.edition, entry.end));
+        slot = entry.slot + 1;
     }
 }
 

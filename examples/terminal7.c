@@ -1,5 +1,8 @@
-/* Terminal 7's volume: formatted, a session made and read, deleted and reclaimed, and listed after each step. */
-#include "../include/sfs.h"
+/*
+ * Terminal 7's volume: formatted, a session made, deleted and reclaimed, and listed after each step.
+ * Build: cc -o terminal7 terminal7.c $(pkg-config --cflags --libs sfs)
+ */
+#include <sfs.h>
 
 #include <stdio.h>
 #include <stdlib.h>
@@ -16,8 +19,10 @@ static void done(const char *what, uint32_t refusal) {
 }
 
 static void listed(void) {
-    uint64_t length = sfs_listing(volume, BYTES, text, sizeof text);
-    fwrite(text, 1, (size_t)length, stdout);
+    struct sfs_content listing = sfs_listing(volume, BYTES, text, sizeof text);
+    if (listing.refusal != SFS_OK)
+        done("list", listing.refusal);
+    fwrite(text, 1, (size_t)listing.length, stdout);
     putchar('\n');
 }
 

@@ -4,9 +4,9 @@
  * A volume is an image of 512 to 16,777,216 bytes that the caller lends for each call. Nothing is kept between calls, so
  * calls on different images may run at the same time; calls on one image may not, if one of them writes.
  *
- * Every call takes any image and any arguments and, format apart, judges the image before anything else. Its refusal
- * number is 0 on success. After a refusal every other number of the answer is 0, and no byte of the image or of a lent
- * output has changed.
+ * Every call on an image takes any image and any arguments and, format and listing apart, judges the image before anything
+ * else. Its refusal number is 0 on success. After a refusal every other number of the answer is 0, and no byte of the image
+ * or of a lent output has changed.
  *
  * The magic decides a volume's edition, and all calls serve both. In 1.10 a delete frees slots and blocks at once, so that
  * nothing can be restored; and every accepted call that writes, format apart, first rewrites deleted runs and stray slots,
@@ -31,6 +31,9 @@
 extern "C" {
 #endif
 
+/* The number of this interface, raised whenever a struct or an argument changes. sfs_api() gives the library's own. */
+#define SFS_API 1u
+
 /* Sizes. */
 #define SFS_IMAGE_MIN 512u
 #define SFS_IMAGE_MAX 16777216u
@@ -41,6 +44,7 @@ extern "C" {
 #define SFS_INDEX_MAX 262144u
 #define SFS_LISTING_IMAGE_MAX 65536u
 #define SFS_LISTING_ROOM 131072u  /* enough for the listing of any image */
+#define SFS_RECORDS_ROOM 491520u  /* enough for the records of any image */
 #define SFS_STACK_MAX 81920u      /* bytes of stack that a call takes at most; none takes any heap */
 
 /* Editions, by the version that a format gives. */
@@ -86,8 +90,8 @@ struct sfs_volume {
     uint64_t total;         /* blocks */
     uint64_t reserved;      /* blocks, the super-block's own among them */
     uint64_t block_length;  /* bytes */
-    uint64_t data;          /* data area, in blocks */
-    uint64_t index;         /* index area, in bytes */
+    uint64_t data_blocks;   /* data area, in blocks */
+    uint64_t index_bytes;   /* index area, in bytes */
     int64_t stamp;          /* when a size last changed */
     int64_t volume_stamp;   /* when the volume was formatted */
     uint64_t name_length;   /* bytes of the volume name */
@@ -104,7 +108,7 @@ struct sfs_entry {
     int64_t stamp;
 };
 
-/* The same with the path's byte count; kind 0: no entry is left. */
+/* The same with the path's byte count; kind 0, if refusal is 0: no entry is left. */
 struct sfs_listed {
     uint32_t refusal;
     uint32_t kind;
@@ -116,11 +120,34 @@ struct sfs_listed {
     uint64_t path_length;
 };
 
-/* What was read. */
+/* What was put into the output. */
 struct sfs_content {
     uint32_t refusal;
-    uint64_t length;
+    uint64_t length;  /* bytes */
 };
+
+/* Records that were put into the output. */
+struct sfs_records {
+    uint32_t refusal;
+    uint64_t count;
+    uint64_t length;  /* bytes of all of them */
+    uint64_t next;    /* the slot to go on from; 0, if refusal is 0: no entry is left */
+};
+
+/* Where the numbers of a record are, 8 bytes each, little-endian, and where its path starts. */
+enum sfs_record {
+    SFS_RECORD_SLOT = 0,
+    SFS_RECORD_KIND = 8,
+    SFS_RECORD_START = 16,
+    SFS_RECORD_END = 24,
+    SFS_RECORD_LENGTH = 32,
+    SFS_RECORD_STAMP = 40,
+    SFS_RECORD_PATH_LENGTH = 48,
+    SFS_RECORD_PATH = 56
+};
+
+/* The number of the library's interface: SFS_API of the header that belongs to it. */
+uint32_t sfs_api(void);
 
 /*
  * Makes the image an empty volume. version is SFS_VERSION_1_0 or SFS_VERSION_1_10, and any other is 5; bytes_per_block is
@@ -141,6 +168,15 @@ struct sfs_entry sfs_find(const uint8_t *image, size_t image_len, const uint8_t 
  * start with 0 and go on with the found slot + 1 until kind is 0. Refusals: 1 to 8, 18.
  */
 struct sfs_listed sfs_list(const uint8_t *image, size_t image_len, uint64_t slot, uint8_t *out, size_t out_len);
+
+/*
+ * Puts a record for each live entry whose first slot is not below slot, in the order of slots, at the start of out, up to
+ * the first that does not fit. A record has the numbers that sfs_list answers, 8 bytes each as enum sfs_record says, and then
+ * the path; the next one follows at once, so that records are not aligned. To list all, start with 0 and go on with next
+ * while refusal is 0 and next is not; the image is judged once a call. With no entry left the refusal is 0, and so are count,
+ * length and next. Refusals: 1 to 8; 18 where not even the first record fits.
+ */
+struct sfs_records sfs_list_all(const uint8_t *image, size_t image_len, uint64_t slot, uint8_t *out, size_t out_len);
 
 /* Puts the bytes of a file at the start of out. Refusals: 1 to 8, 10, 11, 17, 18. */
 struct sfs_content sfs_read(const uint8_t *image, size_t image_len, const uint8_t *path, size_t path_len,
@@ -174,11 +210,11 @@ uint32_t sfs_restore(uint8_t *image, size_t image_len, const uint8_t *path, size
 uint32_t sfs_reclaim(uint8_t *image, size_t image_len, int64_t stamp);
 
 /*
- * Writes the listing program's text of an image of up to SFS_LISTING_IMAGE_MAX bytes at the start of out, which has
- * SFS_LISTING_ROOM bytes at least, and gives its length; 0 if out is shorter than that. A longer image has the text
- * "refused 1\n".
+ * Puts the listing program's text of an image at the start of out and gives its length. The text of an image that is refused
+ * says so, "refused 6\n", and that of one of more than SFS_LISTING_IMAGE_MAX bytes is "refused 1\n"; neither is a refusal of
+ * this call. Refusal: 18 where out has less than SFS_LISTING_ROOM bytes.
  */
-uint64_t sfs_listing(const uint8_t *image, size_t image_len, uint8_t *out, size_t out_len);
+struct sfs_content sfs_listing(const uint8_t *image, size_t image_len, uint8_t *out, size_t out_len);
 
 #ifdef __cplusplus
 }

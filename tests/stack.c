@@ -34,9 +34,13 @@ static uint32_t restore_it(void) {
 }
 static uint32_t reclaim_it(void) { return sfs_reclaim(image, IMAGE, 1); }
 static uint32_t format_it(void) { return sfs_format(image, IMAGE, edition, 512, 1, last, 4, 1); }
+static uint32_t list_all_it(void) {
+    static uint8_t records[SFS_RECORDS_ROOM];
+    return sfs_list_all(image, IMAGE, 0, records, sizeof records).refusal;
+}
 static uint32_t listing_it(void) {
     static uint8_t text[SFS_LISTING_ROOM];
-    return sfs_listing(image, SFS_LISTING_IMAGE_MAX, text, sizeof text) == 0;
+    return sfs_listing(image, SFS_LISTING_IMAGE_MAX, text, sizeof text).refusal;
 }
 
 static void *work(void *call) {
@@ -65,7 +69,7 @@ static size_t stack_of(uint32_t (*call)(void), uint32_t *refusal) {
 static int drop(uint8_t *volume) {
     if (edition == SFS_VERSION_1_0) return sfs_delete(volume, IMAGE, gone, 4, 1) != 0;
     struct sfs_entry found = sfs_find(volume, IMAGE, gone, 4);
-    uint8_t *slot = volume + IMAGE - sfs_open(volume, IMAGE, out, sizeof out).index + found.slot * SFS_SLOT_BYTES;
+    uint8_t *slot = volume + IMAGE - sfs_open(volume, IMAGE, out, sizeof out).index_bytes + found.slot * SFS_SLOT_BYTES;
     slot[0] = 0x1A;
     slot[1] = (uint8_t)(slot[1] - 0x1A + SFS_FILE);
     return found.refusal != 0 || sfs_find(volume, IMAGE, gone, 4).refusal != SFS_NOT_FOUND;
@@ -87,7 +91,8 @@ static int fill(uint8_t *volume, unsigned entries) {
 /* All calls on volumes of the edition: how many failed. */
 static unsigned measured(const char *name, unsigned *count) {
     static const struct { const char *name; uint32_t (*call)(void); const uint8_t *volume; } calls[] = {
-        {"open", open_it, full}, {"find", find_it, full}, {"list", list_it, full}, {"read", read_it, full},
+        {"open", open_it, full}, {"find", find_it, full}, {"list", list_it, full}, {"list_all", list_all_it, full},
+        {"read", read_it, full},
         {"create_file", create_it, less}, {"create_directory", make_it, less}, {"delete", delete_it, full},
         {"restore", restore_it, full}, {"reclaim", reclaim_it, full}, {"format", format_it, full}, {"listing", listing_it, full},
     };

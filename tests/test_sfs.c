@@ -19,8 +19,8 @@ FIELD(sfs_volume, edition, 8, uint32_t);
 FIELD(sfs_volume, total, 16, uint64_t);
 FIELD(sfs_volume, reserved, 24, uint64_t);
 FIELD(sfs_volume, block_length, 32, uint64_t);
-FIELD(sfs_volume, data, 40, uint64_t);
-FIELD(sfs_volume, index, 48, uint64_t);
+FIELD(sfs_volume, data_blocks, 40, uint64_t);
+FIELD(sfs_volume, index_bytes, 48, uint64_t);
 FIELD(sfs_volume, stamp, 56, int64_t);
 FIELD(sfs_volume, volume_stamp, 64, int64_t);
 FIELD(sfs_volume, name_length, 72, uint64_t);
@@ -48,6 +48,23 @@ SIZE(sfs_listed, 56);
 FIELD(sfs_content, refusal, 0, uint32_t);
 FIELD(sfs_content, length, 8, uint64_t);
 SIZE(sfs_content, 16);
+
+FIELD(sfs_records, refusal, 0, uint32_t);
+FIELD(sfs_records, count, 8, uint64_t);
+FIELD(sfs_records, length, 16, uint64_t);
+FIELD(sfs_records, next, 24, uint64_t);
+SIZE(sfs_records, 32);
+
+NUMBER(SFS_RECORD_SLOT, 0);
+NUMBER(SFS_RECORD_KIND, 8);
+NUMBER(SFS_RECORD_START, 16);
+NUMBER(SFS_RECORD_END, 24);
+NUMBER(SFS_RECORD_LENGTH, 32);
+NUMBER(SFS_RECORD_STAMP, 40);
+NUMBER(SFS_RECORD_PATH_LENGTH, 48);
+NUMBER(SFS_RECORD_PATH, 56);
+NUMBER(SFS_RECORDS_ROOM, 491520);
+NUMBER(SFS_API, 1);
 
 NUMBER(SFS_OK, 0);
 NUMBER(SFS_IMAGE_LENGTH, 1);
@@ -101,8 +118,8 @@ static int passed, failed;
 /* Answers compared with the wanted ones, in every field; those of find and list have no padding. */
 static int volume_is(struct sfs_volume a, struct sfs_volume wanted) {
     return a.refusal == wanted.refusal && a.version == wanted.version && a.edition == wanted.edition && a.total == wanted.total
-        && a.reserved == wanted.reserved && a.block_length == wanted.block_length && a.data == wanted.data
-        && a.index == wanted.index && a.stamp == wanted.stamp && a.volume_stamp == wanted.volume_stamp
+        && a.reserved == wanted.reserved && a.block_length == wanted.block_length && a.data_blocks == wanted.data_blocks
+        && a.index_bytes == wanted.index_bytes && a.stamp == wanted.stamp && a.volume_stamp == wanted.volume_stamp
         && a.name_length == wanted.name_length;
 }
 
@@ -135,6 +152,14 @@ static int zero_content(struct sfs_content a, uint32_t refusal) {
     return content_is(a, (struct sfs_content){.refusal = refusal});
 }
 
+static int records_are(struct sfs_records a, struct sfs_records wanted) {
+    return a.refusal == wanted.refusal && a.count == wanted.count && a.length == wanted.length && a.next == wanted.next;
+}
+
+static int zero_records(struct sfs_records a, uint32_t refusal) {
+    return records_are(a, (struct sfs_records){.refusal = refusal});
+}
+
 /* An image of zeros in memory of exactly its size, so that an access past its ends is noticed by the sanitizer. */
 static uint8_t *new_image(size_t n) {
     uint8_t *image = calloc(n ? n : 1, 1);
@@ -149,6 +174,9 @@ static void empty_slices(void) {
     CHECK(zero_volume(sfs_open(NULL, 0, out, 4), SFS_IMAGE_LENGTH));
     CHECK(zero_entry(sfs_find(NULL, 0, NULL, 0), SFS_IMAGE_LENGTH));
     CHECK(zero_listed(sfs_list(NULL, 0, 0, out, 4), SFS_IMAGE_LENGTH));
+    CHECK(zero_records(sfs_list_all(NULL, 0, 0, out, 4), SFS_IMAGE_LENGTH));
+    CHECK(zero_records(sfs_list_all(NULL, 0, 0, NULL, 0), SFS_IMAGE_LENGTH));
+    CHECK(zero_content(sfs_listing(NULL, 0, out, 4), SFS_OUTPUT_TOO_SHORT));
     CHECK(zero_content(sfs_read(NULL, 0, B("a"), out, 4), SFS_IMAGE_LENGTH));
     CHECK(sfs_format(NULL, 0, SFS_VERSION_1_0, 512, 2, NULL, 0, 0) == SFS_IMAGE_LENGTH);
     CHECK(sfs_create_file(NULL, 0, B("a"), NULL, 0, 0) == SFS_IMAGE_LENGTH);
@@ -192,7 +220,7 @@ static void formats(void) {
     CHECK(memcmp(image + 0x1BE, before + 0x1BE, 65536 - 128 - 0x1BE) == 0);
     CHECK(volume_is(sfs_open(image, 65536, before, 5),
                     (struct sfs_volume){.version = 0x10, .edition = 0x10, .total = 128, .reserved = 2, .block_length = 512,
-                                        .index = 128, .stamp = -5, .volume_stamp = -5, .name_length = 5}));
+                                        .index_bytes = 128, .stamp = -5, .volume_stamp = -5, .name_length = 5}));
     CHECK(memcmp(before, "TERM7\x5A", 6) == 0);
     CHECK(zero_volume(sfs_open(image, 65536, before, 4), SFS_OUTPUT_TOO_SHORT));
     CHECK(zero_volume(sfs_open(image, 65535, before, 65536), SFS_GEOMETRY));
@@ -213,7 +241,7 @@ enum { FORMATTED = -1001, MADE = 2002, FIRST = -3003, SECOND = 4004, DELETED = -
 
 static struct sfs_volume stamped_volume(uint32_t edition) {
     return (struct sfs_volume){.version = edition, .edition = edition, .total = 128, .reserved = 3, .block_length = 512,
-                               .data = 7, .index = 320, .stamp = SECOND, .volume_stamp = FORMATTED, .name_length = 6};
+                               .data_blocks = 7, .index_bytes = 320, .stamp = SECOND, .volume_stamp = FORMATTED, .name_length = 6};
 }
 
 static uint8_t *stamped(uint32_t edition) {
@@ -260,7 +288,7 @@ static void stamps_of_writes(void) {
     CHECK(memcmp(image, before, 65536) == 0);
     CHECK(volume_is(sfs_open(image, 65536, out, 6), stamped_volume(SFS_VERSION_1_0)));
     struct sfs_volume trimmed = stamped_volume(SFS_VERSION_1_0);
-    trimmed.data = 5;
+    trimmed.data_blocks = 5;
     trimmed.stamp = RECLAIMED;
     CHECK(sfs_reclaim(image, 65536, RECLAIMED) == SFS_OK);
     CHECK(volume_is(sfs_open(image, 65536, out, 6), trimmed));
@@ -317,7 +345,7 @@ static void deletes(void) {
     CHECK(sfs_delete(image, 65536, B("session/verified"), 1) == SFS_NOT_FOUND);
     CHECK(zero_entry(sfs_find(image, 65536, B("session/verified")), SFS_NOT_FOUND));
     CHECK(sfs_reclaim(image, 65536, 2) == SFS_OK);
-    CHECK(sfs_open(image, 65536, out, 16).data == 0);
+    CHECK(sfs_open(image, 65536, out, 16).data_blocks == 0);
     free(image);
 }
 
@@ -419,7 +447,8 @@ static void full_volume(void) {
 static int text_is(const uint8_t *image, size_t n, const char *wanted) {
     uint8_t *out = new_image(SFS_LISTING_ROOM);
     size_t length = strlen(wanted);
-    int same = sfs_listing(image, n, out, SFS_LISTING_ROOM) == length && memcmp(out, wanted, length) == 0 && out[length] == 0;
+    struct sfs_content text = sfs_listing(image, n, out, SFS_LISTING_ROOM);
+    int same = content_is(text, (struct sfs_content){.length = length}) && memcmp(out, wanted, length) == 0 && out[length] == 0;
     free(out);
     return same;
 }
@@ -440,7 +469,7 @@ static void listing(void) {
                   "live 2 held 1\n"));
     CHECK(sfs_delete(image, 65536, B("session/verified"), 0) == SFS_OK);
     CHECK(text_is(image, 65536, "TERM7\nD 0 1970-01-01T00:01:00Z session\nlive 1 held 1\n"));
-    CHECK(sfs_listing(image, 65536, out, sizeof out) == 0 && out[0] == 0);
+    CHECK(zero_content(sfs_listing(image, 65536, out, sizeof out), SFS_OUTPUT_TOO_SHORT) && out[0] == 0);
     image[0x1BD] ^= 1;
     CHECK(text_is(image, 65536, "refused 4\n"));
     CHECK(sfs_format(image, 65536, SFS_VERSION_1_0, 256, 2, NULL, 0, 0) == SFS_OK);
@@ -476,6 +505,69 @@ static const struct { const char *name; size_t length; } no_names[] = {
     NO("what?"),
 #undef NO
 };
+
+/* A number of a record, little-endian. */
+static uint64_t number_at(const uint8_t *record, size_t place) {
+    uint64_t n = 0;
+    for (size_t i = 8; i > 0; i--)
+        n = n << 8 | record[place + i - 1];
+    return n;
+}
+
+/* The record is what list answers at the slot, and then the path. */
+static int record_is(const uint8_t *record, const uint8_t *image, size_t n, uint64_t slot) {
+    uint8_t path[16320];
+    struct sfs_listed a = sfs_list(image, n, slot, path, sizeof path);
+    return a.kind != 0 && number_at(record, SFS_RECORD_SLOT) == a.slot && number_at(record, SFS_RECORD_KIND) == a.kind
+        && number_at(record, SFS_RECORD_START) == a.start && number_at(record, SFS_RECORD_END) == a.end
+        && number_at(record, SFS_RECORD_LENGTH) == a.length && (int64_t)number_at(record, SFS_RECORD_STAMP) == a.stamp
+        && number_at(record, SFS_RECORD_PATH_LENGTH) == a.path_length
+        && memcmp(record + SFS_RECORD_PATH, path, (size_t)a.path_length) == 0;
+}
+
+/* Two entries: "b/c" of 3 bytes at slot 1 (a record of 59 bytes) and "b" at slot 2 (57). */
+static void list_all(uint32_t version) {
+    uint8_t *image = new_image(65536), out[118];
+    CHECK(sfs_format(image, 65536, version, 512, 2, B("TERM7"), 0) == SFS_OK);
+    CHECK(zero_records(sfs_list_all(image, 65536, 0, NULL, 0), SFS_OK));
+    CHECK(sfs_create_directory(image, 65536, B("b"), 0x3C0000) == SFS_OK);
+    CHECK(sfs_create_file(image, 65536, B("b/c"), B("yes"), -1) == SFS_OK);
+    memset(out, 0x5A, sizeof out);
+    CHECK(zero_records(sfs_list_all(image, 65536, 0, NULL, 0), SFS_OUTPUT_TOO_SHORT));
+    CHECK(zero_records(sfs_list_all(image, 65536, 0, out, 58), SFS_OUTPUT_TOO_SHORT) && out[0] == 0x5A);
+    CHECK(records_are(sfs_list_all(image, 65536, 0, out, 59), (struct sfs_records){.count = 1, .length = 59, .next = 2}));
+    CHECK(record_is(out, image, 65536, 0) && out[59] == 0x5A);
+    CHECK(records_are(sfs_list_all(image, 65536, 0, out, 115), (struct sfs_records){.count = 1, .length = 59, .next = 2}));
+    CHECK(out[59] == 0x5A);
+    CHECK(records_are(sfs_list_all(image, 65536, 0, out, 117), (struct sfs_records){.count = 2, .length = 116}));
+    CHECK(record_is(out, image, 65536, 0) && record_is(out + 59, image, 65536, 2) && out[116] == 0x5A);
+    CHECK(records_are(sfs_list_all(image, 65536, 2, out, 57), (struct sfs_records){.count = 1, .length = 57}));
+    CHECK(record_is(out, image, 65536, 2));
+    CHECK(zero_records(sfs_list_all(image, 65536, 3, out, 116), SFS_OK));
+    CHECK(zero_records(sfs_list_all(image, 65536, UINT64_MAX, out, 116), SFS_OK));
+    image[65535 - 63] ^= 1;
+    CHECK(zero_records(sfs_list_all(image, 65536, 0, out, 116), SFS_INDEX));
+    free(image);
+}
+
+/* The longest records that an index has room for: directories whose names fill their slots. */
+static void longest_records(uint32_t version) {
+    size_t most = version == SFS_VERSION_1_0 ? 53 : 52;
+    uint8_t *image = new_image(SFS_IMAGE_MAX), *out = new_image(SFS_RECORDS_ROOM);
+    char path[64];
+    CHECK(sfs_format(image, SFS_IMAGE_MAX, version, 4096, 1, NULL, 0, 0) == SFS_OK);
+    uint32_t refused = 0;
+    for (unsigned i = 0; i < 4094; i++) {
+        snprintf(path, sizeof path, "%053u", i);
+        refused |= sfs_create_directory(image, SFS_IMAGE_MAX, (const uint8_t *)path + 53 - most, most, 0);
+    }
+    CHECK(refused == SFS_OK);
+    struct sfs_records all = sfs_list_all(image, SFS_IMAGE_MAX, 0, out, SFS_RECORDS_ROOM);
+    CHECK(records_are(all, (struct sfs_records){.count = 4094, .length = 4094 * (SFS_RECORD_PATH + most)}));
+    CHECK(record_is(out + 4093 * (SFS_RECORD_PATH + most), image, SFS_IMAGE_MAX, 4094));
+    free(image);
+    free(out);
+}
 
 static void names_refused(void) {
     uint8_t *image = new_image(65536);
@@ -557,7 +649,7 @@ static void newer_formats(void) {
     CHECK(image[65536 - 64] == 0x01 && sum_of(image + 65536 - 64, 64) == 0);
     CHECK(volume_is(sfs_open(image, 65536, before, 5),
                     (struct sfs_volume){.version = 0x1A, .edition = 0x1A, .total = 128, .reserved = 2, .block_length = 512,
-                                        .index = 128, .stamp = -5, .volume_stamp = -5, .name_length = 5}));
+                                        .index_bytes = 128, .stamp = -5, .volume_stamp = -5, .name_length = 5}));
     CHECK(memcmp(before, "STICK\x5A", 6) == 0);
     CHECK(zero_volume(sfs_open(image, 65536, before, 4), SFS_OUTPUT_TOO_SHORT));
     image[0x1A6] ^= 1;
@@ -641,7 +733,7 @@ static void newer_reclaims(void) {
     CHECK(volume_is(sfs_open(image, 65536, out, 6), trimmed));
     CHECK(sfs_delete(image, 65536, B("d/the-second"), DELETED) == SFS_OK);
     CHECK(sfs_reclaim(image, 65536, RECLAIMED) == SFS_OK);
-    trimmed.data = 5;
+    trimmed.data_blocks = 5;
     trimmed.stamp = RECLAIMED;
     CHECK(volume_is(sfs_open(image, 65536, out, 6), trimmed));
     CHECK(sfs_reclaim(image, 65536, LATER) == SFS_OK);
@@ -801,11 +893,11 @@ static void before_directories(void) {
     CHECK(sfs_create_file(image, 65536, B("old"), NULL, 0, 0) == SFS_OK);
     CHECK(sfs_create_directory(image, 65536, B("d"), 0) == SFS_OK);
     CHECK(sfs_delete(image, 65536, B("old"), 0) == SFS_OK); /* its slot lies behind d */
-    CHECK(sfs_open(image, 65536, NULL, 0).index == 256 && sfs_find(image, 65536, B("d")).slot == 1);
+    CHECK(sfs_open(image, 65536, NULL, 0).index_bytes == 256 && sfs_find(image, 65536, B("d")).slot == 1);
     CHECK(sfs_create_file(image, 65536, B("d/new"), NULL, 0, 0) == SFS_OK);
-    CHECK(sfs_open(image, 65536, NULL, 0).index == 320 && sfs_find(image, 65536, B("d/new")).slot == 1);
+    CHECK(sfs_open(image, 65536, NULL, 0).index_bytes == 320 && sfs_find(image, 65536, B("d/new")).slot == 1);
     CHECK(sfs_create_file(image, 65536, B("new"), NULL, 0, 0) == SFS_OK);
-    CHECK(sfs_open(image, 65536, NULL, 0).index == 320 && sfs_find(image, 65536, B("new")).slot == 3);
+    CHECK(sfs_open(image, 65536, NULL, 0).index_bytes == 320 && sfs_find(image, 65536, B("new")).slot == 3);
     free(image);
 }
 
@@ -825,7 +917,7 @@ static void newer_name_lengths(void) {
         else
             CHECK(sfs_create_directory(image, 65536, path, n, 0) == SFS_OK);
         index += 64 * names[i].slots;
-        CHECK(sfs_open(image, 65536, NULL, 0).index == index);
+        CHECK(sfs_open(image, 65536, NULL, 0).index_bytes == index);
         CHECK(sfs_find(image, 65536, path, n).refusal == SFS_OK && sfs_find(image, 65536, path, n - 1).refusal == SFS_NOT_FOUND);
     }
     CHECK(sfs_create_file(image, 65536, path, 286, NULL, 0, 0) == SFS_NAME);
@@ -847,6 +939,11 @@ int main(void) {
     restores_refused();
     full_volume();
     listing();
+    CHECK(sfs_api() == SFS_API);
+    list_all(SFS_VERSION_1_0);
+    list_all(SFS_VERSION_1_10);
+    longest_records(SFS_VERSION_1_0);
+    longest_records(SFS_VERSION_1_10);
     names_refused();
     names_in_utf8();
     names_over_slots();

@@ -11,8 +11,8 @@ struct Volume {
     total: u64,
     reserved: u64,
     block_length: u64,
-    data: u64,
-    index: u64,
+    data_blocks: u64,
+    index_bytes: u64,
     stamp: i64,
     volume_stamp: i64,
     name_length: u64,
@@ -47,7 +47,16 @@ struct Content {
     length: u64,
 }
 
+#[repr(C)]
+struct Records {
+    refusal: u32,
+    count: u64,
+    length: u64,
+    next: u64,
+}
+
 extern "C" {
+    fn sfs_api() -> u32;
     fn sfs_format(
         image: *mut u8,
         image_len: usize,
@@ -61,6 +70,7 @@ extern "C" {
     fn sfs_open(image: *const u8, image_len: usize, out: *mut u8, out_len: usize) -> Volume;
     fn sfs_find(image: *const u8, image_len: usize, path: *const u8, path_len: usize) -> Entry;
     fn sfs_list(image: *const u8, image_len: usize, slot: u64, out: *mut u8, out_len: usize) -> Listed;
+    fn sfs_list_all(image: *const u8, image_len: usize, slot: u64, out: *mut u8, out_len: usize) -> Records;
     fn sfs_read(image: *const u8, image_len: usize, path: *const u8, path_len: usize, out: *mut u8, out_len: usize) -> Content;
     fn sfs_create_file(
         image: *mut u8,
@@ -75,11 +85,8 @@ extern "C" {
     fn sfs_delete(image: *mut u8, image_len: usize, path: *const u8, path_len: usize, stamp: i64) -> u32;
     fn sfs_restore(image: *mut u8, image_len: usize, path: *const u8, path_len: usize, stamp: i64) -> u32;
     fn sfs_reclaim(image: *mut u8, image_len: usize, stamp: i64) -> u32;
-    fn sfs_listing(image: *const u8, image_len: usize, out: *mut u8, out_len: usize) -> u64;
+    fn sfs_listing(image: *const u8, image_len: usize, out: *mut u8, out_len: usize) -> Content;
 }
-
-/// Room for the text of any image that the listing program takes.
-const LISTING_ROOM: usize = 131_072;
 
 /// The library's calls. Each pointer comes with the length of the slice it was taken from, and no two slices overlap.
 #[derive(Clone, Copy, Debug, Default)]
@@ -89,7 +96,15 @@ fn written(refusal: u32) -> Written {
     Written { refusal: refusal as u8 }
 }
 
+fn content(a: Content) -> Read {
+    Read { refusal: a.refusal as u8, length: a.length }
+}
+
 impl Store for Library {
+    fn api(&self) -> u32 {
+        unsafe { sfs_api() }
+    }
+
     fn format(&self, image: &mut [u8], version: u64, block: u64, reserved: u64, name: &[u8], stamp: i64) -> Written {
         let (i, n) = (image.as_mut_ptr(), image.len());
         written(unsafe { sfs_format(i, n, version, block, reserved, name.as_ptr(), name.len(), stamp) })
@@ -103,9 +118,9 @@ impl Store for Library {
             total: a.total,
             reserved: a.reserved,
             block_length: a.block_length,
-            data: a.data,
-            index: a.index,
-            super_block_stamp: a.stamp,
+            data_blocks: a.data_blocks,
+            index_bytes: a.index_bytes,
+            stamp: a.stamp,
             volume_stamp: a.volume_stamp,
             name_length: a.name_length,
             edition: a.edition as u8,
@@ -139,9 +154,13 @@ impl Store for Library {
         }
     }
 
+    fn list_all(&self, image: &[u8], slot: u64, out: &mut [u8]) -> second::Records {
+        let a = unsafe { sfs_list_all(image.as_ptr(), image.len(), slot, out.as_mut_ptr(), out.len()) };
+        second::Records { refusal: a.refusal as u8, count: a.count, length: a.length, next: a.next }
+    }
+
     fn read(&self, image: &[u8], path: &[u8], out: &mut [u8]) -> Read {
-        let a = unsafe { sfs_read(image.as_ptr(), image.len(), path.as_ptr(), path.len(), out.as_mut_ptr(), out.len()) };
-        Read { refusal: a.refusal as u8, length: a.length }
+        content(unsafe { sfs_read(image.as_ptr(), image.len(), path.as_ptr(), path.len(), out.as_mut_ptr(), out.len()) })
     }
 
     fn create_file(&self, image: &mut [u8], path: &[u8], stamp: i64, bytes: &[u8]) -> Written {
@@ -165,10 +184,7 @@ impl Store for Library {
         written(unsafe { sfs_reclaim(image.as_mut_ptr(), image.len(), stamp) })
     }
 
-    fn listing(&self, input: &[u8]) -> Vec<u8> {
-        let mut text = vec![0; LISTING_ROOM];
-        let length = unsafe { sfs_listing(input.as_ptr(), input.len(), text.as_mut_ptr(), text.len()) };
-        text.truncate(length as usize);
-        text
+    fn listing(&self, image: &[u8], out: &mut [u8]) -> Read {
+        content(unsafe { sfs_listing(image.as_ptr(), image.len(), out.as_mut_ptr(), out.len()) })
     }
 }

@@ -18,9 +18,12 @@ pub struct Opened {
     pub total: u64,
     pub reserved: u64,
     pub block_length: u64,
-    pub data: u64,
-    pub index: u64,
-    pub super_block_stamp: i64,
+    /// The data area, in blocks.
+    pub data_blocks: u64,
+    /// The index area, in bytes.
+    pub index_bytes: u64,
+    /// When a size last changed.
+    pub stamp: i64,
     pub volume_stamp: i64,
     pub name_length: u64,
     /// Its version byte stands for it: 0x10 or 0x1A.
@@ -39,7 +42,7 @@ pub struct Found {
     pub stamp: i64,
 }
 
-/// The answer of list; kind 0 says that no live entry is left.
+/// The answer of list; kind 0, without a refusal, says that no live entry is left.
 #[derive(Clone, Copy, Debug, Default, PartialEq, Eq)]
 pub struct Listed {
     pub refusal: Refusal,
@@ -52,7 +55,16 @@ pub struct Listed {
     pub path_length: u64,
 }
 
-/// The answer of read.
+/// The answer of list_all; next is where to go on, and 0 says that no live entry is left.
+#[derive(Clone, Copy, Debug, Default, PartialEq, Eq)]
+pub struct Records {
+    pub refusal: Refusal,
+    pub count: u64,
+    pub length: u64,
+    pub next: u64,
+}
+
+/// The answer of read and of listing.
 #[derive(Clone, Copy, Debug, Default, PartialEq, Eq)]
 pub struct Read {
     pub refusal: Refusal,

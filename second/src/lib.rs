@@ -27,10 +27,11 @@ pub mod superblock;
 pub mod volume;
 pub mod xorshift;
 
-pub use answer::{Found, Listed, Opened, Read, Written};
+pub use answer::{Found, Listed, Opened, Read, Records, Written};
 pub use create::{create, create_directory, create_file, Content};
 pub use edition::Edition;
 pub use erase::{delete, reclaim, restore};
 pub use format::format;
-pub use listing::listing;
-pub use query::{find, list, open, read};
+pub use listing::{listing, listing_text};
+pub use query::{find, list, list_all, open, read};
+pub use store::API;

@@ -1,7 +1,9 @@
 //! The text of the listing program.
 
+use crate::answer::Read;
 use crate::dates;
 use crate::index::{Entry, FILE};
+use crate::query;
 use crate::refusal::{self, Refusal};
 use crate::regions;
 use crate::volume::Volume;
@@ -9,8 +11,23 @@ use crate::volume::Volume;
 /// The most input the listing program takes, in bytes.
 pub const MOST_INPUT: usize = 65_536;
 
+/// Room for the text of any image; a lent output has so many bytes at least.
+pub const LEAST_ROOM: usize = 131_072;
+
+/// Puts the text of an image at the start of `output`, also that of one that is refused.
+pub fn listing(image: &[u8], output: &mut [u8]) -> Read {
+    if output.len() < LEAST_ROOM {
+        return Read { refusal: refusal::OUTPUT_SHORT, length: 0 };
+    }
+    let text = listing_text(image);
+    match query::lend(output, &text) {
+        Ok(()) => Read { refusal: 0, length: text.len() as u64 },
+        Err(refusal) => Read { refusal, length: 0 },
+    }
+}
+
 /// The whole output for an image given as standard input.
-pub fn listing(input: &[u8]) -> Vec<u8> {
+pub fn listing_text(input: &[u8]) -> Vec<u8> {
     match accepted(input) {
         Ok(text) => text,
         Err(refusal) => format!("refused {refusal}\n").into_bytes(),

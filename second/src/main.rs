@@ -74,5 +74,5 @@ fn list_input() -> Result<(), String> {
     let mut input = Vec::new();
     // One byte past the limit is enough to refuse longer input.
     io::stdin().lock().take(listing::MOST_INPUT as u64 + 1).read_to_end(&mut input).map_err(told)?;
-    io::stdout().lock().write_all(&listing::listing(&input)).map_err(told)
+    io::stdout().lock().write_all(&listing::listing_text(&input)).map_err(told)
 }

@@ -1,6 +1,6 @@
 //! The script interpreter. `SCRIPT.md` is the exact description of what it reads and prints.
 
-use crate::answer::{Found, Listed, Opened};
+use crate::answer::{Found, Listed, Opened, Read, Records};
 use crate::edition::Edition;
 use crate::history::{History, Told};
 use crate::refusal::{Counts, Refusal};
@@ -94,9 +94,9 @@ pub struct Session<S = Own> {
     history: Option<History>,
     /// How often each refusal number was the answer of a call; listings and histories not counted.
     pub met: Counts,
-    /// The same with listings, parted by call.
+    /// The same with listings, parted by call; api has no such number.
     by_call: BTreeMap<Called, Counts>,
-    /// Calls answered, listings among them.
+    /// Calls answered, listings and api among them.
     pub calls: u64,
     /// The last call's refusal number.
     pub last: Refusal,
@@ -158,9 +158,10 @@ impl<S: Store> Session<S> {
         };
         match word {
             "image" | "imagefill" | "imagehex" | "poke" | "truncate" => self.reshape(word, words).map(|()| None),
-            "open" | "find" | "list" | "read" => self.ask(word, words).map(Some),
+            "open" | "find" | "list" | "listall" | "read" => self.ask(word, words).map(Some),
             "format" | "mkfile" | "mkdir" | "delete" | "restore" | "reclaim" => self.write(word, words).map(Some),
             "listing" => self.listing(words).map(Some),
+            "api" => words.done().map(|()| Some(self.api())),
             "history" => words.done().map(|()| Some(self.check())),
             _ => Err(format!("unknown command {word:.20}")),
         }
@@ -185,7 +186,7 @@ impl<S: Store> Session<S> {
 
     fn ask(&mut self, word: &str, mut words: Words) -> Result<String, String> {
         let path = if matches!(word, "find" | "read") { words.bytes()? } else { Vec::new() };
-        let slot = if word == "list" { words.number()? } else { 0 };
+        let slot = if matches!(word, "list" | "listall") { words.number()? } else { 0 };
         let mut output = lent(if word == "find" { 0 } else { words.length()? });
         words.done()?;
         let edition = Edition::of_image(&self.image);
@@ -193,10 +194,8 @@ impl<S: Store> Session<S> {
             "open" => opened(self.store.open(&self.image, &mut output)),
             "find" => found(self.store.find(&self.image, &path)),
             "list" => listed(self.store.list(&self.image, slot, &mut output)),
-            _ => {
-                let answer = self.store.read(&self.image, &path, &mut output);
-                (answer.refusal, vec![answer.length.into()])
-            }
+            "listall" => records(self.store.list_all(&self.image, slot, &mut output)),
+            _ => content(self.store.read(&self.image, &path, &mut output)),
         };
         let shown = (word != "find").then_some(output);
         self.count(word, refusal, edition);
@@ -235,12 +234,22 @@ impl<S: Store> Session<S> {
         }
     }
 
+    /// Counted by the number that the text gives, as the call itself gives no other than 18, which no text does.
     fn listing(&mut self, mut words: Words) -> Result<String, String> {
+        let mut output = lent(words.length()?);
         words.done()?;
-        let text = self.store.listing(&self.image);
+        let answer = self.store.listing(&self.image, &mut output);
+        let text = output.get(..answer.length as usize).unwrap_or_default();
+        let number = if answer.refusal == 0 { refused(text) } else { answer.refusal };
         self.calls += 1;
-        self.count_by_call("listing", refused(&text), Edition::of_image(&self.image));
-        Ok(format!("listing {}{}{}", text.len(), self.shown("text", &text), self.shown("img", &self.image)))
+        self.count_by_call("listing", number, Edition::of_image(&self.image));
+        let (refusal, numbers) = content(answer);
+        Ok(self.answer("listing", refusal, &numbers, Some(&output)))
+    }
+
+    fn api(&mut self) -> String {
+        self.calls += 1;
+        format!("api {}", self.store.api())
     }
 
     fn check(&self) -> String {
@@ -290,10 +299,10 @@ fn refused(text: &[u8]) -> Refusal {
 type Numbers = (Refusal, Vec<i128>);
 
 fn opened(answer: Opened) -> Numbers {
-    let sizes = [answer.total, answer.reserved, answer.block_length, answer.data, answer.index];
+    let sizes = [answer.total, answer.reserved, answer.block_length, answer.data_blocks, answer.index_bytes];
     let mut numbers = vec![i128::from(answer.version)];
     numbers.extend(sizes.map(i128::from));
-    numbers.extend([answer.super_block_stamp, answer.volume_stamp].map(i128::from));
+    numbers.extend([answer.stamp, answer.volume_stamp].map(i128::from));
     numbers.extend([answer.name_length.into(), i128::from(answer.edition)]);
     (answer.refusal, numbers)
 }
@@ -310,4 +319,12 @@ fn listed(answer: Listed) -> Numbers {
         [answer.slot, answer.kind.into(), answer.start, answer.end, answer.length].map(i128::from).to_vec();
     numbers.extend([answer.stamp.into(), i128::from(answer.path_length)]);
     (answer.refusal, numbers)
+}
+
+fn records(answer: Records) -> Numbers {
+    (answer.refusal, [answer.count, answer.length, answer.next].map(i128::from).to_vec())
+}
+
+fn content(answer: Read) -> Numbers {
+    (answer.refusal, vec![answer.length.into()])
 }

@@ -1,8 +1,12 @@
 //! The calls as an interface, so that a script can be carried out on another store and the answers compared.
 
-use crate::answer::{Found, Listed, Opened, Read, Written};
+use crate::answer::{Found, Listed, Opened, Read, Records, Written};
+
+/// The number of the interface, raised whenever an answer or an argument changes.
+pub const API: u32 = 1;
 
 pub trait Store {
+    fn api(&self) -> u32;
     fn format(
         &self,
         image: &mut [u8],
@@ -15,13 +19,14 @@ pub trait Store {
     fn open(&self, image: &[u8], output: &mut [u8]) -> Opened;
     fn find(&self, image: &[u8], path: &[u8]) -> Found;
     fn list(&self, image: &[u8], slot: u64, output: &mut [u8]) -> Listed;
+    fn list_all(&self, image: &[u8], slot: u64, output: &mut [u8]) -> Records;
     fn read(&self, image: &[u8], path: &[u8], output: &mut [u8]) -> Read;
     fn create_file(&self, image: &mut [u8], path: &[u8], stamp: i64, bytes: &[u8]) -> Written;
     fn create_directory(&self, image: &mut [u8], path: &[u8], stamp: i64) -> Written;
     fn delete(&self, image: &mut [u8], path: &[u8], stamp: i64) -> Written;
     fn restore(&self, image: &mut [u8], path: &[u8], stamp: i64) -> Written;
     fn reclaim(&self, image: &mut [u8], stamp: i64) -> Written;
-    fn listing(&self, input: &[u8]) -> Vec<u8>;
+    fn listing(&self, image: &[u8], output: &mut [u8]) -> Read;
 }
 
 /// This crate's own calls.
@@ -29,6 +34,10 @@ pub trait Store {
 pub struct Own;
 
 impl Store for Own {
+    fn api(&self) -> u32 {
+        API
+    }
+
     fn format(
         &self,
         image: &mut [u8],
@@ -51,6 +60,10 @@ impl Store for Own {
 
     fn list(&self, image: &[u8], slot: u64, output: &mut [u8]) -> Listed {
         crate::list(image, slot, output)
+    }
+
+    fn list_all(&self, image: &[u8], slot: u64, output: &mut [u8]) -> Records {
+        crate::list_all(image, slot, output)
     }
 
     fn read(&self, image: &[u8], path: &[u8], output: &mut [u8]) -> Read {
@@ -77,7 +90,7 @@ impl Store for Own {
         crate::reclaim(image, stamp)
     }
 
-    fn listing(&self, input: &[u8]) -> Vec<u8> {
-        crate::listing(input)
+    fn listing(&self, image: &[u8], output: &mut [u8]) -> Read {
+        crate::listing(image, output)
     }
 }

@@ -4,7 +4,7 @@ mod common;
 
 use common::*;
 use second::superblock::CHECKSUM;
-use second::{create_directory, create_file, delete, find, format, listing, read, reclaim};
+use second::{create_directory, create_file, delete, find, format, listing_text, read, reclaim};
 
 #[test]
 fn checksum_of_a_floppy() {
@@ -97,20 +97,20 @@ fn listing_of_term7() {
     assert_eq!(create_file(&mut image, b"session/verified", -1, b"yes").refusal, 0);
     let expected =
         "TERM7\nF 3 1969-12-31T23:59:59Z session/verified\nD 0 1970-01-01T00:01:00Z session\nlive 2 held 1\n";
-    assert_eq!(listing(&image), expected.as_bytes());
+    assert_eq!(listing_text(&image), expected.as_bytes());
     image.push(0);
-    assert_eq!(listing(&image), b"refused 1\n");
-    assert_eq!(listing(&[0; 512]), b"refused 2\n");
-    assert_eq!(listing(&[]), b"refused 1\n");
+    assert_eq!(listing_text(&image), b"refused 1\n");
+    assert_eq!(listing_text(&[0; 512]), b"refused 2\n");
+    assert_eq!(listing_text(&[]), b"refused 1\n");
 }
 
 #[test]
 fn listing_of_odd_volumes() {
     let mut image = vec![0; 4096];
     format(&mut image, 0x10, 512, 1, b"", 0);
-    assert_eq!(listing(&image), b"\nlive 0 held 0\n");
+    assert_eq!(listing_text(&image), b"\nlive 0 held 0\n");
     mkfile(&mut image, b"\xc3\xbf", &[0; 600]);
     mkfile(&mut image, b"g", &[0; 100]);
     delete(&mut image, b"g", 0);
-    assert_eq!(listing(&image), b"\nF 600 1970-01-01T00:00:00Z \xc3\xbf\nlive 1 held 3\n");
+    assert_eq!(listing_text(&image), b"\nF 600 1970-01-01T00:00:00Z \xc3\xbf\nlive 1 held 3\n");
 }

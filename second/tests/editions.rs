@@ -4,7 +4,7 @@ mod common;
 
 use common::{changed, put};
 use second::history::{History, Told};
-use second::{create_directory, create_file, delete, find, format, list, listing, open, read, reclaim, restore};
+use second::{create_directory, create_file, delete, find, format, list, listing_text, open, read, reclaim, restore};
 use second::{Edition, Found, Listed, Opened};
 
 const OLD: u64 = 0x10;
@@ -238,16 +238,16 @@ fn a_file_of_three_bytes_in_a_directory() {
     let image = term7();
     assert_eq!(changed(&expected, &image), []);
     let text = "TERM7\nF 3 1969-12-31T23:59:59Z session/verified\nD 0 1970-01-01T00:01:00Z session\nlive 2 held 1\n";
-    assert_eq!(listing(&image), text.as_bytes());
+    assert_eq!(listing_text(&image), text.as_bytes());
     let opened = Opened {
         refusal: 0,
         version: 0x1A,
         total: 128,
         reserved: 2,
         block_length: 512,
-        data: 1,
-        index: 256,
-        super_block_stamp: -1,
+        data_blocks: 1,
+        index_bytes: 256,
+        stamp: -1,
         volume_stamp: 0,
         name_length: 5,
         edition: 0x1A,
@@ -280,7 +280,7 @@ fn delete_empties_the_slots_and_no_more() {
         assert_eq!(restore(&mut image, path, 9).refusal, 11);
         assert_eq!(changed(&expected, &image), []);
     }
-    assert_eq!(listing(&image), b"TERM7\nlive 0 held 0\n");
+    assert_eq!(listing_text(&image), b"TERM7\nlive 0 held 0\n");
     // The data area is as it was until a reclaim, which trims it and stamps the super-block.
     let before = image.clone();
     assert_eq!((data_size(&image), reclaim(&mut image, 77).refusal), (1, 0));
@@ -391,7 +391,7 @@ fn formats_from_one_edition_to_the_other() {
         assert_eq!(format(&mut image, version, 512, 1, b"x", 4).refusal, 0);
         let opened = open(&image, &mut [0; 1]);
         assert_eq!((opened.refusal, u64::from(opened.edition), u64::from(opened.version)), (0, version, version));
-        assert_eq!((opened.total, opened.reserved, opened.data, opened.index), (16, 1, 0, 128));
+        assert_eq!((opened.total, opened.reserved, opened.data_blocks, opened.index_bytes), (16, 1, 0, 128));
         assert_eq!(mkfile(&mut image, b"f", &[1; 600]), 0);
         let found = find(&image, b"f");
         assert_eq!((found.start, found.end), if version == NEW { (1, 2) } else { (1, 3) });
@@ -688,7 +688,7 @@ fn a_create_between_held_blocks() {
     assert_eq!((find(&image, b"one").start, find(&image, b"one").end, data_size(&image)), (3, 3, 8));
     assert_eq!(mkfile(&mut image, b"next", &[1; 513]), 0);
     assert_eq!((find(&image, b"next").start, find(&image, b"next").end, data_size(&image)), (9, 10, 10));
-    assert_eq!(listing(&image).split(|byte| *byte == b'\n').rev().nth(1), Some(b"live 5 held 8".as_slice()));
+    assert_eq!(listing_text(&image).split(|byte| *byte == b'\n').rev().nth(1), Some(b"live 5 held 8".as_slice()));
     assert_eq!(delete(&mut image, b"next", 1).refusal, 0);
     assert_eq!((data_size(&image), reclaim(&mut image, 1).refusal, data_size(&image)), (10, 0, 8));
 }

@@ -232,7 +232,7 @@ fn restores_in_every_situation() {
 fn restores_of_built_entries() {
     let mut session = Session::without_digests();
     let (mut long, mut spare) = (0, 0);
-    for line in generator::script(9, 12_000, Some("built")).unwrap_or_default().lines() {
+    for line in generator::script(9, 18_000, Some("built")).unwrap_or_default().lines() {
         session.execute(line).unwrap();
         let words: Vec<&str> = line.split(' ').collect();
         if words[0] != "restore" || session.last != 0 {
@@ -266,7 +266,8 @@ fn lines_are_as_described() {
     assert_eq!(fill(3, 0), fill(3, 0x9E37_79B9_7F4A_7C15));
     let script =
         "# nothing\n\nopen 0\nimage 8192\nhistory\nformat 16 512 1 5445 -5\nopen 3\nmkfile 61 9 616263\nlist 0 1\n\
-                  read 61 2\nfind 61\nhistory\npoke 9000 00\nhistory\n";
+                  listall 0 57\nlistall 0 56\nlistall 2 0\nread 61 2\nfind 61\nlisting 131071\nlisting 131072\napi\n\
+                  history\npoke 9000 00\nhistory\n";
     let lines = printed(script);
     let bare: Vec<&str> =
         lines.iter().map(|line| line.split(" out=").next().unwrap().split(" img=").next().unwrap()).collect();
@@ -277,8 +278,14 @@ fn lines_are_as_described() {
         "open 0 16 16 1 512 0 128 -5 -5 2 16",
         "mkfile 0",
         "list 0 1 18 1 2 3 9 1",
+        "listall 0 1 57 0",
+        "listall 18 0 0 0",
+        "listall 0 0 0 0",
         "read 18 0",
         "find 0 1 18 1 2 3 9",
+        "listing 18 0",
+        "listing 0 44",
+        "api 1",
         "history ok",
         "history none",
     ];
@@ -298,6 +305,11 @@ fn lines_that_cannot_be_read() {
         "poke 1",
         "mkdir 61",
         "open 1 2",
+        "listing",
+        "listing 1 2",
+        "listall 0",
+        "listall -1 9",
+        "api 1",
         "mkfile 61 1 fill:3",
     ] {
         assert!(Session::default().execute(line).is_err(), "{line}");
@@ -322,12 +334,13 @@ fn any_image_gets_an_answer() {
                 "open 51",
                 "find 41",
                 "list 0 300",
+                "listall 0 999",
                 "read 41 99",
                 "mkfile 42 1 fill:300:1",
                 "delete 41 1",
                 "restore 41 1",
                 "reclaim 1",
-                "listing",
+                "listing 131072",
             ]
             .map(String::from),
         );

@@ -4,7 +4,7 @@ mod common;
 
 use common::*;
 use second::names::{path_allowed, volume_name_allowed};
-use second::{create_file, delete, find, format, list, listing, open, reclaim};
+use second::{create_file, delete, find, format, list, listing_text, open, reclaim};
 
 const A_PAGE: &[u8] = "À la page".as_bytes();
 const KINDS: [u8; 4] = [0x11, 0x12, 0x19, 0x1A];
@@ -136,7 +136,7 @@ fn the_branch_at_the_square() {
     assert_eq!(create_file(&mut image, A_PAGE, 0, b"abc").refusal, 0);
     assert_eq!(list(&image, 0, &mut output).path_length, 10);
     assert_eq!((&output[..10], output[10]), (A_PAGE, 0xEE));
-    assert_eq!(listing(&image), "À la page\nF 3 1970-01-01T00:00:00Z À la page\nlive 1 held 1\n".as_bytes());
+    assert_eq!(listing_text(&image), "À la page\nF 3 1970-01-01T00:00:00Z À la page\nlive 1 held 1\n".as_bytes());
 }
 
 #[test]

@@ -6,7 +6,7 @@ use common::*;
 use second::history::{History, Told};
 use second::script::Session;
 use second::superblock::{CHECKSUM, INDEX, MAGIC, STAMP, TOTAL, VERSION};
-use second::{delete, find, format, list, listing, read, reclaim, restore, Listed};
+use second::{delete, find, format, list, listing_text, read, reclaim, restore, Listed};
 
 /// Restores, and asserts that a refusal writes nothing.
 fn back(image: &mut [u8], path: &[u8]) -> u8 {
@@ -374,7 +374,10 @@ fn a_full_volume_is_no_hindrance() {
     gone(&mut image, b"big");
     assert_eq!([mkfile(&mut image, b"y", b""), mkfile(&mut image, b"big", b"")], [15; 2]);
     assert_eq!(back(&mut image, b"big"), 0);
-    assert_eq!(listing(&image), b"VOL\nF 0 1970-01-01T00:00:00Z one\nF 256 1970-01-01T00:00:00Z big\nlive 2 held 1\n");
+    assert_eq!(
+        listing_text(&image),
+        b"VOL\nF 0 1970-01-01T00:00:00Z one\nF 256 1970-01-01T00:00:00Z big\nlive 2 held 1\n"
+    );
     assert_eq!(read(&image, b"big", &mut [0; 256]).length, 256);
 }
 

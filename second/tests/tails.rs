@@ -121,7 +121,7 @@ fn answers_of_every_sort() {
     }
     // Most images open, so the searches are reached.
     let refused: u64 = session.met[1..9].iter().sum();
-    assert!(refused * 20 < session.calls, "{refused} of {}", session.calls);
+    assert!(refused * 10 < session.calls, "{refused} of {}", session.calls);
 }
 
 fn sum(one: Counts, other: Counts) -> Counts {

@@ -5,9 +5,9 @@ mod long_name;
 mod volumes;
 
 use crate::library::Library;
+use second::query::RECORDS_ROOM;
 use second::refusal::{Refusal, NOT_LIVE, SUCCESS};
-use second::store::{Own, Store};
-use second::Edition;
+use second::store::{Own, Store, API};
 use std::hint::black_box;
 use std::time::{Duration, Instant};
 use volumes::{new_at, Kind, Volume, BIG, BIG_AT, BYTES, GONE, KINDS, MIB};
@@ -19,6 +19,11 @@ const SWEEPS: u32 = 3;
 const LEAST_ROUNDS: u32 = 3;
 const ROUNDS: u32 = 60;
 const ENOUGH: Duration = Duration::from_millis(60);
+/// All entries, one by one and at once.
+const BY_LIST: &str = "list all by list";
+const AT_ONCE: &str = "list all";
+/// A volume of more entries is not listed one by one: it is judged for each of them, and that takes too long.
+const MOST_BY_LIST: usize = 1024;
 
 /// What is timed: another commit's library, if one was linked, the library and the second program.
 const PROGRAMS: &[(&str, &dyn Store)] = &[
@@ -32,16 +37,30 @@ const PROGRAMS: &[(&str, &dyn Store)] = &[
 type Call = fn(&dyn Store, &mut [u8], &[u8], &mut [u8]) -> Refusal;
 
 /// What each call is timed on: the volume, or one with an entry less for what a create adds.
-const CALLS: [(&str, Call); 8] = [
+const CALLS: [(&str, Call); 10] = [
     ("open", |store, image, _, out| black_box(store.open(image, out)).refusal),
     ("find", |store, image, path, _| black_box(store.find(image, path)).refusal),
     ("list", |store, image, _, out| black_box(store.list(image, 0, out)).refusal),
+    (BY_LIST, |store, image, _, out| list_by_list(store, image, out)),
+    (AT_ONCE, |store, image, _, out| black_box(store.list_all(image, 0, &mut out[..RECORDS_ROOM])).refusal),
     ("read", |store, image, _, out| black_box(store.read(image, BIG, out)).refusal),
     ("create", |store, image, _, out| black_box(store.create_file(image, b"new", 1, out)).refusal),
     ("delete", |store, image, path, _| black_box(store.delete(image, path, 1)).refusal),
     ("reclaim", |store, image, _, _| black_box(store.reclaim(image, 1)).refusal),
     ("restore", |store, image, _, _| black_box(store.restore(image, GONE, 1)).refusal),
 ];
+
+/// From slot to slot until no entry is left.
+fn list_by_list(store: &dyn Store, image: &[u8], out: &mut [u8]) -> Refusal {
+    let mut slot = 0;
+    loop {
+        let listed = black_box(store.list(image, slot, out));
+        if listed.refusal != SUCCESS || listed.kind == 0 {
+            return listed.refusal;
+        }
+        slot = listed.slot + 1;
+    }
+}
 
 /// The best times so far, in the order in which they are printed.
 #[derive(Default)]
@@ -67,6 +86,9 @@ impl Table {
 
 /// On the volumes whose names begin so.
 pub fn run(volumes: &str) -> Result<String, String> {
+    if let Some((program, store)) = PROGRAMS.iter().find(|(_, store)| store.api() != API) {
+        return Err(format!("{program} has interface {}, not {API}", store.api()));
+    }
     let mut table = Table::default();
     for _ in 0..SWEEPS {
         for kind in KINDS.iter().filter(|kind| kind.name.starts_with(volumes)) {
@@ -111,9 +133,8 @@ fn wanted(kind: &Kind, call: &str) -> Refusal {
     }
 }
 
-/// A library of a commit without edition 1.10 opens no volume of it, and is not timed there.
-fn is_timed(program: &str, store: &dyn Store, edition: Edition, image: &[u8]) -> bool {
-    program != "before" || edition == Edition::V1_0 || store.open(image, &mut [0; 51]).refusal == SUCCESS
+fn is_timed(call: &str, entries: usize) -> bool {
+    call != BY_LIST || entries <= MOST_BY_LIST
 }
 
 /// All calls on volumes of this look, and one pass over the index bytes.
@@ -123,9 +144,9 @@ fn timed(kind: &Kind, entries: usize, table: &mut Table) -> Result<(), String> {
     let index = &full.image[BYTES - full.index..];
     let sum = || black_box(black_box(index).iter().try_fold(0_u64, |sum, byte| sum.checked_add((*byte).into()))).is_some();
     table.measure(format!("{}\t{entries}\tpass\tmachine", kind.name), || best(ROUNDS, sum))?;
-    for (name, call) in CALLS {
+    for (name, call) in CALLS.into_iter().filter(|(name, _)| is_timed(name, entries)) {
         let volume = if name == "create" { &less } else { &full };
-        for (program, store) in PROGRAMS.iter().filter(|(program, store)| is_timed(program, *store, kind.edition, &full.image)) {
+        for (program, store) in PROGRAMS {
             let fields = format!("{}\t{entries}\t{name}\t{program}", kind.name);
             table.measure(fields, || best_on(volume, *store, call, wanted(kind, name)))?;
         }

@@ -7,15 +7,16 @@ use Rattle.rules.specs.Utf8.{within, isCode, encode, encodeAll, tails, row, fir
 use Rattle.rules.specs.Names.{isMark, codeGood, codesGood, textGood, intoFirst, parts, partGood, pathGood, newPathGood, volumeTextGood, volumeNameGood, leadIf, leading, isBelow}
 use Rattle.rules.specs.Index.{fileType, directoryType, runType, liveType, deletedType, strayType, staleType, nameAt, runSlots, runField, nameField, fileField, entryAt, unusableAt, nameGood, runWhole, runAt, unusableItem, staleSlots, itemAt, followed, walk, walkAll, slotAt, innerSlots, itemsOf, entriesOf, isFault, identifierAt, volumeField, volumeName, volumeStamp, identifierGood, markerGood, indexSound, entryBytes, markerBytes, identifierBytes, unusedBytes, continuing, regionBytes, runBytes, retyped}
 use Rattle.rules.specs.Regions.{holds, blocksOf, withinData, fileRegionGood, regionGood, apart, regionsSound, heldBlocks, busy, runFree, lowestFrom, lowestFree, blocksNeeded}
-use Rattle.rules.specs.Paths.{isLive, liveAt, isDeleted, deletedAt, lookup, isDirectoryAt, directoryLive, directoriesLive, pathsDiffer, pathsSound, anyBelow, nextLive}
+use Rattle.rules.specs.Paths.{isLive, liveAt, isDeleted, deletedAt, lookup, isDirectoryAt, directoryLive, directoriesLive, pathsDiffer, pathsSound, anyBelow, liveFrom, nextLive}
 use Rattle.rules.specs.Refusals.{need, needFound, andThen, magicGood, editionOf, versionGood, checksumGood, judgeIndex, judgeSuper, judgeGeometry, judge, judgeAs}
 use Rattle.rules.specs.Outcome.{done, conclude, onVolume, noVolume, noEntry, numbersOf, noneListed}
 use Rattle.rules.specs.Reading.{volumeNumbers, openOf, findOf, fileBytes, readOf, listed, listOf}
+use Rattle.rules.specs.Records.{numbersBytes, recordBytes, recordOf, stopAt, withRecord, recordStep, recordsFrom, noRecords, recordsOutcome, listAllOf}
 use Rattle.rules.specs.Writing.{tidied, freshGeometry, formatted, formatOf, kindOf, bytesOf, nearestLive, unusedFirst, startsUnused, itemSlot, lowestUnused, mayGrow, grownPlace, placeFrom, isAbove, itemsBefore, placesFor, placeRun, placeFile, newEntry, putMarker, created, createOf, deletedKind, deleted, deleteOf, liveKind, restored, restoreOf, cleared, leastEnd, reclaimOf}
 use Rattle.rules.specs.History.{passed, step, nothing, keptOf, keptAt, marked, revived, markedIn, struckIn, fed, feed, run, told}
 use Rattle.rules.specs.Text.{digit, digits, decimal, widened}
 use Rattle.rules.specs.Dates.{floorDiv, floorMod, divides, leapYear, yearLength, monthLength, countOff, yearOff, monthOff, dateIn, dateOf, secondsOf, daysOf, secondOfDay, momentOf, yearText, twoDigits, momentText}
-use Rattle.rules.specs.Listing.{lineOf, linesOf, countLine, refusedLine, volumeText, listingOf}
+use Rattle.rules.specs.Listing.{lineOf, linesOf, countLine, refusedLine, volumeText, listingOf, textOf}
 use Rattle.rules.specs.Comparing.{atLast, lastAlike, goesOn, walked, looked, nameIn, met, entryLooked, searchLooked, findLooked}
 
 -- All definitions of the rules by one name: a theorem that says `unfolding everything` computes through them.
@@ -36,10 +37,11 @@ unfolding
     identifierBytes unusedBytes continuing regionBytes runBytes retyped
     holds blocksOf withinData fileRegionGood regionGood apart regionsSound heldBlocks busy runFree lowestFrom lowestFree
     blocksNeeded
-    isLive liveAt isDeleted deletedAt lookup isDirectoryAt directoryLive directoriesLive pathsDiffer pathsSound anyBelow nextLive
+    isLive liveAt isDeleted deletedAt lookup isDirectoryAt directoryLive directoriesLive pathsDiffer pathsSound anyBelow liveFrom nextLive
     need needFound andThen magicGood editionOf versionGood checksumGood judgeIndex judgeSuper judgeGeometry judge judgeAs
     done conclude onVolume noVolume noEntry numbersOf noneListed
     volumeNumbers openOf findOf fileBytes readOf listed listOf
+    numbersBytes recordBytes recordOf stopAt withRecord recordStep recordsFrom noRecords recordsOutcome listAllOf
     tidied freshGeometry formatted formatOf kindOf bytesOf nearestLive unusedFirst startsUnused itemSlot lowestUnused mayGrow
     grownPlace placeFrom isAbove itemsBefore placesFor placeRun placeFile newEntry putMarker created createOf deletedKind deleted
     deleteOf liveKind restored restoreOf cleared leastEnd reclaimOf
@@ -47,6 +49,6 @@ unfolding
     digit digits decimal widened
     floorDiv floorMod divides leapYear yearLength monthLength countOff yearOff monthOff dateIn dateOf secondsOf daysOf secondOfDay
     momentOf yearText twoDigits momentText
-    lineOf linesOf countLine refusedLine volumeText listingOf
+    lineOf linesOf countLine refusedLine volumeText listingOf textOf
     atLast lastAlike goesOn walked looked nameIn met entryLooked searchLooked findLooked
 everything = tt

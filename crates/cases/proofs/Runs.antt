@@ -4,16 +4,17 @@ use Prim.Native.String.{String}
 use mathlib.Core.Bool.{true}
 use mathlib.Core.Path.{_≡_, refl}
 use mathlib.Core.List.{List, [], _∷_, _++_}
-use lib.ListN.{replicate}
+use lib.ListN.{drop, replicate}
 use lib.IntN.{pos, negsuc}
 use Rattle.rules.specs.Fields.{splice}
 use Rattle.rules.specs.Editions.{edition10}
 use Rattle.rules.specs.Index.{typeFile, typeDirectory}
 use Rattle.rules.specs.Outcome.{done}
 use Rattle.rules.specs.Reading.{openOf, findOf, listOf, readOf}
+use Rattle.rules.specs.Records.{listAllOf}
 use Rattle.rules.specs.Writing.{newFile, newDirectory, formatOf, createOf, deleteOf, restoreOf, reclaimOf}
-use Rattle.rules.specs.History.{Call, format, openVolume, find, list, read, create, delete, restore, reclaim, step, run, told, nothing}
-use Rattle.rules.specs.Text.{text}
+use Rattle.rules.specs.History.{Call, format, openVolume, find, list, listAll, read, create, delete, restore, reclaim, step, run, told, nothing}
+use Rattle.rules.specs.Text.{text, joined}
 use Rattle.rules.specs.Listing.{listingOf}
 use Rattle.cases.proofs.Computing.{everything}
 use Rattle.cases.proofs.Table.{date}
@@ -24,6 +25,7 @@ refusalOf s (format version bytesPerBlock reserved name stamp) = formatOf s vers
 refusalOf s (openVolume out) = openOf s out .refusal
 refusalOf s (find path) = findOf s path .refusal
 refusalOf s (list slot out) = listOf s slot out .refusal
+refusalOf s (listAll slot out) = listAllOf s slot out .refusal
 refusalOf s (read path out) = readOf s path out .refusal
 refusalOf s (create new path stamp) = createOf s new path stamp .refusal
 refusalOf s (delete path stamp) = deleteOf s path stamp .refusal
@@ -308,6 +310,23 @@ pub token-list :
     × (listOf token 2 (blank 8) .output ≡ text "session\0")
 unfolding everything
 token-list = (refl, refl)
+
+-- both as records of 72 and 63 bytes; one byte less has room for the first alone, and 71 for none
+pub token-records :
+    (listAllOf token 0 (blank 135) .answer ≡ record { count = 2; length = 135; next = 0 })
+    × (listAllOf token 0 (blank 134) .answer ≡ record { count = 1; length = 72; next = 2 })
+    × (listAllOf token 0 (blank 71) .refusal ≡ 18)
+    × (listAllOf token 3 (blank 71) .answer ≡ record { count = 0; length = 0; next = 0 })
+unfolding everything
+token-records = (refl, refl, refl, refl)
+
+-- the second of them, to the byte: slot, kind, start, end, length, stamp, the path's bytes and the path
+pub token-record :
+    drop 72 (listAllOf token 0 (blank 135) .output)
+    ≡ joined
+    ((2 ∷ blank 7) ∷ (0x11 ∷ blank 7) ∷ blank 8 ∷ blank 8 ∷ blank 8 ∷ (0 ∷ 0 ∷ 0x3C ∷ blank 5) ∷ (7 ∷ blank 7) ∷ text "session" ∷ [])
+unfolding everything
+token-record = refl
 
 -- a directory goes after what is below it
 abbrev logout : List Call

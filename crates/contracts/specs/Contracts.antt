@@ -3,19 +3,17 @@
 use Prim.Native.Nat.{ℕ}
 use mathlib.Core.Path.{_≡_}
 use mathlib.Core.List.{List, []}
-use lib.ListN.{length}
-use lib.Dec.{leb}
 use lib.IntN.{ℤ}
-use Rattle.rules.specs.Lists.{pick}
-use Rattle.rules.specs.Fields.{splice}
 use Rattle.rules.specs.Outcome.{Outcome, VolumeNumbers, EntryNumbers, ListedNumbers}
 use Rattle.rules.specs.Reading.{openOf, findOf, listOf, readOf}
+use Rattle.rules.specs.Records.{RecordsNumbers, listAllOf}
 use Rattle.rules.specs.Writing.{Written, New, newFile, newDirectory, formatOf, createOf, deleteOf, restoreOf, reclaimOf}
-use Rattle.rules.specs.Listing.{listingOf}
+use Rattle.rules.specs.Listing.{textOf}
 use Rattle.contracts.specs.declared.Volume.{Volume}
 use Rattle.contracts.specs.declared.Entry.{Entry}
 use Rattle.contracts.specs.declared.Listed.{Listed}
 use Rattle.contracts.specs.declared.Content.{Content}
+use Rattle.contracts.specs.declared.Records.{Records}
 pub mod Laws
 
 -- ---- the answers in the rules' words
@@ -26,8 +24,8 @@ volumeAnswer r = record {
   total = r .total;
   reserved = r .reserved;
   blockLength = r .«block_length»;
-  dataBlocks = r .«data»;
-  indexBytes = r .index;
+  dataBlocks = r .«data_blocks»;
+  indexBytes = r .«index_bytes»;
   stamp = r .stamp;
   volumeStamp = r .«volume_stamp»;
   nameLength = r .«name_length»;
@@ -54,21 +52,22 @@ listedView s after r = record { refusal = r .refusal; answer = listedAnswer r; i
 abbrev pub contentView : List ℕ → List ℕ → Content → Outcome ℕ
 contentView s after r = record { refusal = r .refusal; answer = r .length; image = s; output = after }
 
+abbrev pub recordsAnswer : Records → RecordsNumbers
+recordsAnswer r = record { count = r .count; length = r .length; next = r .next }
+
+abbrev pub recordsView : List ℕ → List ℕ → Records → Outcome RecordsNumbers
+recordsView s after r = record { refusal = r .refusal; answer = recordsAnswer r; image = s; output = after }
+
 -- a call that writes answers its refusal alone
 abbrev pub writtenAs : ℕ → List ℕ → Written
 writtenAs r t = record { refusal = r; answer = tt; image = t; output = [] }
 
--- the listing's length, and the output that holds it
-pub record Text : Type 0 where
-  pub length : ℕ
-  pub output : List ℕ
+-- ---- sfs_api: the number of the interface, raised whenever a struct or an argument changes
+abbrev pub interface : ℕ
+interface = 1
 
-abbrev pub textAs : ℕ → List ℕ → Text
-textAs n after = record { length = n; output = after }
-
--- nothing where the output is shorter than any text may need
-unfoldable pub textOf : List ℕ → List ℕ → Text
-textOf s out = pick (leb 131_072 (length out)) (textAs (length (listingOf s)) (splice out 0 (listingOf s))) (textAs 0 out)
+abbrev pub TellsApi : ℕ → Type 0
+TellsApi r = r ≡ interface
 
 -- ---- sfs_format: a fresh volume of the edition that the version byte names, in place of whatever the image held
 abbrev pub Formats : List ℕ → ℕ → ℕ → ℕ → List ℕ → ℤ → ℕ → List ℕ → Type 0
@@ -85,6 +84,10 @@ Finds s path r = entryView s r ≡ findOf s path
 -- ---- sfs_list: the numbers of the next live entry from a slot on, and its path in the output
 abbrev pub Lists : List ℕ → ℕ → List ℕ → Listed → List ℕ → Type 0
 Lists s slot out r after = listedView s after r ≡ listOf s slot out
+
+-- ---- sfs_list_all: how many records of live entries from a slot on, how many bytes they have and the slot to go on from; the records in the output
+abbrev pub ListsAll : List ℕ → ℕ → List ℕ → Records → List ℕ → Type 0
+ListsAll s slot out r after = recordsView s after r ≡ listAllOf s slot out
 
 -- ---- sfs_read: the length of the path's file, and its bytes in the output
 abbrev pub Reads : List ℕ → List ℕ → List ℕ → Content → List ℕ → Type 0
@@ -112,6 +115,6 @@ Restores s path stamp r t = writtenAs r t ≡ restoreOf s path stamp
 abbrev pub Reclaims : List ℕ → ℤ → ℕ → List ℕ → Type 0
 Reclaims s stamp r t = writtenAs r t ≡ reclaimOf s stamp
 
--- ---- sfs_listing: the listing program's text, in an output that any text fits
-abbrev pub WritesListing : List ℕ → List ℕ → ℕ → List ℕ → Type 0
-WritesListing s out r after = textAs r after ≡ textOf s out
+-- ---- sfs_listing: the length of the listing program's text, and the text in an output that any text fits
+abbrev pub WritesListing : List ℕ → List ℕ → Content → List ℕ → Type 0
+WritesListing s out r after = contentView s after r ≡ textOf s out

@@ -8,8 +8,8 @@ pub struct Volume {
     pub total: u64,
     pub reserved: u64,
     pub block_length: u64,
-    pub data: u64,
-    pub index: u64,
+    pub data_blocks: u64,
+    pub index_bytes: u64,
     pub stamp: i64,
     pub volume_stamp: i64,
     pub name_length: u64,
@@ -42,4 +42,12 @@ pub struct Listed {
 pub struct Content {
     pub refusal: u32,
     pub length: u64,
+}
+
+#[repr(C)]
+pub struct Records {
+    pub refusal: u32,
+    pub count: u64,
+    pub length: u64,
+    pub next: u64,
 }

@@ -12,6 +12,7 @@ use Rattle.rules.specs.Paths.{nextLive}
 use Rattle.rules.specs.Refusals.{Verdict, refused, accepted, need, needFound, andThen, entries}
 use Rattle.rules.specs.Outcome.{Outcome, done, conclude, onVolume}
 use Rattle.rules.specs.Reading.{openOf, findOf, readOf, listed, listOf}
+use Rattle.rules.specs.Records.{recordsOutcome, listAllOf}
 use Rattle.rules.specs.Writing.{New, formatOf, createOf, deleteOf, restoreOf, reclaimOf}
 
 -- what holds of the outcome, where there is one
@@ -75,6 +76,10 @@ list-image s slot out = same-image _ s out _ (each-then (Same s) _ _ (λ v. by (
     by : (ed : Edition) (o : Option _) → Each (Same s) (listed ed s out o)
     by ed none = each-accepted (Same s) _ refl
     by ed (some e) = each-need (Same s) _ _ _ (each-accepted (Same s) _ refl)
+
+pub list-all-image : (s : List ℕ) (slot : ℕ) (out : List ℕ) → listAllOf s slot out .image ≡ s
+unfolding listAllOf recordsOutcome done
+list-all-image s slot out = same-image _ s out _ (each-need (Same s) _ _ _ (each-accepted (Same s) _ refl))
 
 -- ---- the calls that write
 abbrev Zero : {A : Type 0} → Outcome A → Type 0

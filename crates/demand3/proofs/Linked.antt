@@ -11,11 +11,11 @@ use Rattle.rules.specs.Editions.{Edition, keepsDeleted}
 use Rattle.rules.specs.SuperBlock.{blockLength}
 use Rattle.rules.specs.Refusals.{accepted, Volume, judge}
 use Rattle.rules.specs.Writing.{New, formatOf, createOf, deleteOf, restoreOf, reclaimOf}
-use Rattle.rules.specs.History.{Call, format, openVolume, find, list, read, create, delete, restore, reclaim, passed, step, keptAt, marked, markedIn, struckIn, revived, Kept, History, fed, feed, run, told}
+use Rattle.rules.specs.History.{Call, format, openVolume, find, list, listAll, read, create, delete, restore, reclaim, passed, step, keptAt, marked, markedIn, struckIn, revived, Kept, History, fed, feed, run, told}
 use Rattle.rules.specs.History.Laws.{Balanced, balanced-fed}
 use Rattle.after.specs.After.{Left, Extent, sight, unusables, AfterFormat, AfterCreate, AfterDelete, AfterRestore, AfterReclaim}
 use Rattle.laws.proofs.Lists.Perms.{perm-map, perm-only}
-use Rattle.demand3.proofs.Calls.{open-image, find-image, list-image, read-image, format-refused, create-refused, delete-refused, restore-refused, reclaim-refused}
+use Rattle.demand3.proofs.Calls.{open-image, find-image, list-image, list-all-image, read-image, format-refused, create-refused, delete-refused, restore-refused, reclaim-refused}
 
 -- ---- the unusable regions: an accepted format leaves none, every other call leaves them
 unfoldable pub unusableFed : List Extent → Call → List Extent
@@ -23,6 +23,7 @@ unusableFed bad (format version bytesPerBlock reserved name stamp) = []
 unusableFed bad (openVolume out) = bad
 unusableFed bad (find path) = bad
 unusableFed bad (list slot out) = bad
+unusableFed bad (listAll slot out) = bad
 unusableFed bad (read path out) = bad
 unusableFed bad (create new path stamp) = bad
 unusableFed bad (delete path stamp) = bad
@@ -140,6 +141,7 @@ module _ (format-left : AfterFormat) (create-left : AfterCreate) (delete-left : 
   stepped s h bad (openVolume out) l = read-on s _ h bad (openVolume out) _ refl refl (open-image s out) l
   stepped s h bad (find path) l = read-on s _ h bad (find path) _ refl refl (find-image s path) l
   stepped s h bad (list slot out) l = read-on s _ h bad (list slot out) _ refl refl (list-image s slot out) l
+  stepped s h bad (listAll slot out) l = read-on s _ h bad (listAll slot out) _ refl refl (list-all-image s slot out) l
   stepped s h bad (read path out) l = read-on s _ h bad (read path out) _ refl refl (read-image s path out) l
   stepped s h bad (create new path stamp) l =
       fed-by s _ h bad (create new path stamp) _ (λ a. created s h bad new path stamp l (eqb-true _ 0 a)) (create-refused s new path stamp) l

@@ -6,7 +6,6 @@ use mathlib.Core.List.{List, [], _∷_, _++_, map, append-assoc}
 use lib.ListN.{length, length-map}
 use borrow.Author.Tests.{le-leb}
 use Rattle.rules.specs.Lists.{All, only}
-use Rattle.rules.specs.Fields.{splice}
 use Rattle.rules.specs.Index.{volumeName}
 use Rattle.rules.specs.Paths.{isLive}
 use Rattle.rules.specs.Refusals.{accepted, need, Volume, entries, judge}
@@ -14,8 +13,8 @@ use Rattle.rules.specs.Outcome.{Outcome, done}
 use Rattle.rules.specs.Writing.{formatOf}
 use Rattle.rules.specs.Text.{text}
 use Rattle.rules.specs.Listing.{listingOf, volumeText, linesOf, countLine}
-use Rattle.rules.specs.History.{Call, format, openVolume, find, list, read, create, delete, restore, reclaim, Passed, passed, step, History, nothing, fed, feed, run, told, nameOfEntry, nameOfKept, Holds, ReadsBack}
-use Rattle.contracts.specs.Contracts.{Reads, WritesListing, textAs}
+use Rattle.rules.specs.History.{Call, format, openVolume, find, list, listAll, read, create, delete, restore, reclaim, Passed, passed, step, History, nothing, fed, feed, run, told, nameOfEntry, nameOfKept, Holds, ReadsBack}
+use Rattle.contracts.specs.Contracts.{Reads, WritesListing}
 use Rattle.contracts.specs.Contracts.Laws.{text-done}
 use Rattle.contracts.specs.declared.Content.{Content}
 use Rattle.laws.proofs.Lists.Every.{all-weaken}
@@ -34,6 +33,7 @@ answered-step s (format version bytesPerBlock reserved name stamp) p (r, t, e, h
 answered-step s (openVolume out) p (r, after, e, h) = same-passed _ _ p e h
 answered-step s (find path) p (r, e, h) = same-passed _ _ p e h
 answered-step s (list slot out) p (r, after, e, h) = same-passed _ _ p e h
+answered-step s (listAll slot out) p (r, after, e, h) = same-passed _ _ p e h
 answered-step s (read path out) p (r, after, e, h) = same-passed _ _ p e h
 answered-step s (create new path stamp) p (r, t, e, h) = same-passed _ _ p e h
 answered-step s (delete path stamp) p (r, t, e, h) = same-passed _ _ p e h
@@ -72,14 +72,16 @@ listing-is : (u : List ℕ) (v : Volume) → judge u ≡ accepted v → length u
 unfolding listingOf volumeText need
 listing-is u v opens short = rw (le-leb (length u) 65_536 short, opens)
 
-pub listing-counts : (u : List ℕ) (h : History) → Holds u h → (out : List ℕ) (r : ℕ) (after : List ℕ) → WritesListing u out r after
+pub listing-counts : (u : List ℕ) (h : History) → Holds u h → (out : List ℕ) (r : Content) (after : List ℕ) → WritesListing u out r after
     → ListingCounts h u out r after
+unfolding done
 listing-counts u h holds out r after e short room =
-    let f : textAs r after ≡ textAs (length (listingOf u)) (splice out 0 (listingOf u)) = e ∙ text-done u out room in
+    let f = e ∙ text-done u out room in
     let es = entries (holds .volume) in (
       listingOf u,
-      ap (λ x. x .length) f,
-      ap (λ x. x .output) f,
+      ap (λ o. o .refusal) f,
+      ap (λ o. o .answer) f,
+      ap (λ o. o .output) f,
       record {
         entries = es;
         lines = (volumeName u ++ text "\n") ++ linesOf (only isLive es);

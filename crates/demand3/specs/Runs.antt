@@ -12,11 +12,12 @@ use Rattle.rules.specs.Index.{Entry as Held, typeFile}
 use Rattle.rules.specs.Regions.{heldBlocks}
 use Rattle.rules.specs.Paths.{isLive}
 use Rattle.rules.specs.Listing.{countLine}
-use Rattle.rules.specs.History.{Call, format, openVolume, find, list, read, create, delete, restore, reclaim, Passed, Kept, History, nothing, fed, feed, Holds}
-use Rattle.contracts.specs.Contracts.{Formats, OpensVolume, Finds, Lists, Reads, Creates, Deletes, Restores, Reclaims, WritesListing}
+use Rattle.rules.specs.History.{Call, format, openVolume, find, list, listAll, read, create, delete, restore, reclaim, Passed, Kept, History, nothing, fed, feed, Holds}
+use Rattle.contracts.specs.Contracts.{Formats, OpensVolume, Finds, Lists, ListsAll, Reads, Creates, Deletes, Restores, Reclaims, WritesListing}
 use Rattle.contracts.specs.declared.Volume.{Volume}
 use Rattle.contracts.specs.declared.Entry.{Entry}
 use Rattle.contracts.specs.declared.Listed.{Listed}
+use Rattle.contracts.specs.declared.Records.{Records}
 use Rattle.contracts.specs.declared.Content.{Content}
 
 -- ---- a run
@@ -30,6 +31,7 @@ Answered s (format version bytesPerBlock reserved name stamp) p = (r : ℕ) × (
 Answered s (openVolume out) p = (r : Volume) × (after : List ℕ) × OpensVolume s out r after × (p ≡ passedAs (r .refusal) s)
 Answered s (find path) p = (r : Entry) × Finds s path r × (p ≡ passedAs (r .refusal) s)
 Answered s (list slot out) p = (r : Listed) × (after : List ℕ) × Lists s slot out r after × (p ≡ passedAs (r .refusal) s)
+Answered s (listAll slot out) p = (r : Records) × (after : List ℕ) × ListsAll s slot out r after × (p ≡ passedAs (r .refusal) s)
 Answered s (read path out) p = (r : Content) × (after : List ℕ) × Reads s path out r after × (p ≡ passedAs (r .refusal) s)
 Answered s (create new path stamp) p = (r : ℕ) × (t : List ℕ) × Creates s new path stamp r t × (p ≡ passedAs r t)
 Answered s (delete path stamp) p = (r : ℕ) × (t : List ℕ) × Deletes s path stamp r t × (p ≡ passedAs r t)
@@ -70,17 +72,17 @@ pub record TellsCounts (h : History) (text : List ℕ) : Type 0 where
   pub blocks : heldBlocks entries + h .givenBack ≡ h .granted
 
 -- an answer of sfs_listing, output long enough
-abbrev pub ListingCounts : History → List ℕ → List ℕ → ℕ → List ℕ → Type 0
+abbrev pub ListingCounts : History → List ℕ → List ℕ → Content → List ℕ → Type 0
 ListingCounts h s out r after =
     length s ≤ 65_536
     → 131_072 ≤ length out
-    → (text : List ℕ) × (r ≡ length text) × (after ≡ splice out 0 text) × TellsCounts h text
+    → (text : List ℕ) × (r .refusal ≡ 0) × (r .length ≡ length text) × (after ≡ splice out 0 text) × TellsCounts h text
 
 -- the image holds what the history says, and so do the answers that show it
 pub record HeldByCode (u : List ℕ) (h : History) : Type 0 where
   pub holds : Holds u h
   pub reads : (path out : List ℕ) (r : Content) (after : List ℕ) → Reads u path out r after → All (λ k. BytesBack k path out r after) (h .kept)
-  pub listing : (out : List ℕ) (r : ℕ) (after : List ℕ) → WritesListing u out r after → ListingCounts h u out r after
+  pub listing : (out : List ℕ) (r : Content) (after : List ℕ) → WritesListing u out r after → ListingCounts h u out r after
 
 -- from any format that the code answered with 0, for every run from the image that it left
 abbrev pub Demand3OfCode : Type 0

@@ -3,10 +3,11 @@
 use contracts::Content;
 use contracts::Entry;
 use contracts::Listed;
+use contracts::Records;
 use contracts::Volume;
 ghost use Rattle.rules.specs.Lists.{All};
 ghost use Rattle.rules.specs.Writing.{newFile, newDirectory};
-ghost use Rattle.rules.specs.History.{History, Holds, format, openVolume, find, list, read, create, delete, restore, reclaim};
+ghost use Rattle.rules.specs.History.{History, Holds, format, openVolume, find, list, listAll, read, create, delete, restore, reclaim};
 ghost use Rattle.contracts.specs.Contracts.{WritesListing};
 ghost use Rattle.demand3.specs.Runs.{Answered, passedAs, BytesBack, ListingCounts};
 
@@ -39,6 +40,12 @@ pub fn serve_list(image: &[u8], slot: u64, out: &mut [u8]) -> Listed
     ensures { λ r. ⌜ Answered (now (image .entry)) (list slot (now (out .entry))) (passedAs (r .refusal) (now (image .entry))) ⌝ }
 {
     sfs::sfs_list(image, slot, out)
+}
+
+pub fn serve_list_all(image: &[u8], slot: u64, out: &mut [u8]) -> Records
+    ensures { λ r. ⌜ Answered (now (image .entry)) (listAll slot (now (out .entry))) (passedAs (r .refusal) (now (image .entry))) ⌝ }
+{
+    sfs::sfs_list_all(image, slot, out)
 }
 
 // A step, and a live file of the image's history comes back.
@@ -80,7 +87,7 @@ pub fn serve_reclaim(image: &mut [u8], stamp: i64) -> u32
 }
 
 // The listing is no call of the history, but its counts are the history's.
-pub fn serve_listing(image: &[u8], out: &mut [u8]) -> u64
+pub fn serve_listing(image: &[u8], out: &mut [u8]) -> Content
     ensures { λ r. ⌜ WritesListing (now (image .entry)) (now (out .entry)) r (now (out .exit)) ⌝ }
     ensures counts { λ r. ⌜ ((h : History) → Holds (now (image .entry)) h → ListingCounts h (now (image .entry)) (now (out .entry)) r (now (out .exit))) ⌝ }
 {

@@ -92,10 +92,10 @@ fn put_identifier(img: &mut [u8], ed: Edition, at: Offset, stamp: u64, name: &[u
 
 // It is the first slot. Whether it has its type and a right sum.
 fn marker_good(img: &[u8], g: Geometry) -> bool
-    requires { ⌜ (64 ≤ g .index) × (g .index ≤ length (now img)) ⌝ }
+    requires { ⌜ (64 ≤ g .«index_bytes») × (g .«index_bytes» ≤ length (now img)) ⌝ }
     ensures { λ r. ⌜ r ≡ markerGood (now (img .entry)) (geometryView g) ⌝ }
 {
-    let at = units::index_start(img.len() as u64, g.index);
+    let at = units::index_start(img.len() as u64, g.index_bytes);
     if slots::kind_at(img, at) != slots::MARKER {
         return false;
     }
@@ -104,11 +104,11 @@ fn marker_good(img: &[u8], g: Geometry) -> bool
 
 // It moves with the index's start.
 pub fn move_marker(img: &mut [u8], old: Geometry, new: Geometry)
-    requires { ⌜ (64 ≤ new .index) × (new .index ≤ length (now img)) ⌝ }
+    requires { ⌜ (64 ≤ new .«index_bytes») × (new .«index_bytes» ≤ length (now img)) ⌝ }
     ensures { λ _. ⌜ now (img .exit) ≡ putMarker (now (img .entry)) (geometryView old) (geometryView new) ⌝ }
 {
-    if old.index != new.index {
-        let start = units::index_start(img.len() as u64, new.index);
+    if old.index_bytes != new.index_bytes {
+        let start = units::index_start(img.len() as u64, new.index_bytes);
         runs::put_marker(img, new.edition, start);
     }
 }
@@ -117,7 +117,7 @@ pub fn move_marker(img: &mut [u8], old: Geometry, new: Geometry)
 
 // Whether the two ends of the index are good.
 pub fn are_good(img: &[u8], g: Geometry) -> bool
-    requires { ⌜ (64 ≤ g .index) × (g .index ≤ length (now img)) ⌝ }
+    requires { ⌜ (64 ≤ g .«index_bytes») × (g .«index_bytes» ≤ length (now img)) ⌝ }
     ensures { λ r. ⌜ r ≡ (markerGood (now (img .entry)) (geometryView g) && identifierGood (editionView (g .edition)) (now (img .entry))) ⌝ }
 {
     if !marker_good(img, g) {

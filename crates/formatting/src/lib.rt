@@ -34,12 +34,12 @@ fn fresh(n: u64, edition: Edition, field: u8, reserved: u32, stamp: u64) -> Geom
     Geometry {
         edition,
         stamp,
-        data: 0,
-        index: ends::BYTES,
+        data_blocks: 0,
+        index_bytes: ends::BYTES,
         version,
         total,
         reserved,
-        field,
+        block_field: field,
     }
 }
 

@@ -16,12 +16,12 @@ abbrev pub geometryView : Held → Geometry
 geometryView g = record {
   edition = editionView (g .edition);
   stamp = signedOf (g .stamp);
-  dataBlocks = g .«data»;
-  indexBytes = g .index;
+  dataBlocks = g .«data_blocks»;
+  indexBytes = g .«index_bytes»;
   version = g .version;
   total = g .total;
   reserved = g .reserved;
-  blockField = g .field;
+  blockField = g .«block_field»;
 }
 
 unfoldable pub areasFit : ℕ → Geometry → Bool

@@ -29,22 +29,22 @@ const MOST_FIELD: u8 = 5;
 pub struct Geometry {
     pub edition: Edition,
     pub stamp: u64,
-    pub data: u64,
-    pub index: u64,
+    pub data_blocks: u64,
+    pub index_bytes: u64,
     pub version: u8,
     pub total: u64,
     pub reserved: u32,
-    pub field: u8,
+    pub block_field: u8,
 }
 
 impl Geometry {
     // The index area so many bytes larger.
     pub fn grow_index(self, bytes: u64) -> Geometry
-        requires { ⌜ self .index + bytes < 2 ^ 64 ⌝ }
+        requires { ⌜ self .«index_bytes» + bytes < 2 ^ 64 ⌝ }
         ensures { λ r. ⌜ geometryView r ≡ growIndex (geometryView self) bytes ⌝ }
     {
         let mut g = self;
-        g.index = self.index + bytes;
+        g.index_bytes = self.index_bytes + bytes;
         g
     }
 
@@ -54,8 +54,8 @@ impl Geometry {
     {
         let blocks = end.blocks_past(self.data_start());
         let mut g = self;
-        if g.data < blocks {
-            g.data = blocks;
+        if g.data_blocks < blocks {
+            g.data_blocks = blocks;
         }
         g
     }
@@ -65,7 +65,7 @@ impl Geometry {
         ensures { λ r. ⌜ geometryView r ≡ trimData (geometryView self) (end .0) ⌝ }
     {
         let mut g = self;
-        g.data = end.blocks_past(self.data_start());
+        g.data_blocks = end.blocks_past(self.data_start());
         g
     }
 
@@ -73,10 +73,10 @@ impl Geometry {
     pub fn restamp(self, old: Geometry, stamp: u64) -> Geometry
         ensures { λ r. ⌜ geometryView r ≡ restamp (geometryView old) (geometryView self) (signedOf stamp) ⌝ }
     {
-        if old.index != self.index {
+        if old.index_bytes != self.index_bytes {
             return self.stamped(stamp);
         }
-        if old.data != self.data {
+        if old.data_blocks != self.data_blocks {
             return self.stamped(stamp);
         }
         self
@@ -93,10 +93,10 @@ impl Geometry {
 
     // The bytes of a block.
     pub fn block_length(self) -> u64
-        requires { ⌜ self .field ≤ 5 ⌝ }
+        requires { ⌜ self .«block_field» ≤ 5 ⌝ }
         ensures { λ r. ⌜ (r ≡ blockLength (geometryView self)) × (128 ≤ r) × (r ≤ 4096) ⌝ }
     {
-        blocks::block_bytes(self.field)
+        blocks::block_bytes(self.block_field)
     }
 
     // The first block of the data area: those before it are reserved.
@@ -108,18 +108,18 @@ impl Geometry {
 
     // The first block past the data area.
     pub fn data_end(self) -> Block
-        requires { ⌜ self .reserved + self .«data» < 2 ^ 64 ⌝ }
+        requires { ⌜ self .reserved + self .«data_blocks» < 2 ^ 64 ⌝ }
         ensures { λ r. ⌜ r .0 ≡ dataEnd (geometryView self) ⌝ }
     {
-        self.data_start().after(self.data)
+        self.data_start().after(self.data_blocks)
     }
 
     // 01's ceiling block: the first block that files may not reach, in an image of n bytes.
     pub fn ceiling(self, n: u64) -> Block
-        requires { ⌜ (self .field ≤ 5) × (self .index ≤ n) ⌝ }
+        requires { ⌜ (self .«block_field» ≤ 5) × (self .«index_bytes» ≤ n) ⌝ }
         ensures { λ r. ⌜ r .0 ≡ ceilingBlock n (geometryView self) ⌝ }
     {
-        units::index_start(n, self.index).block(self.block_length())
+        units::index_start(n, self.index_bytes).block(self.block_length())
     }
 
     // Whether a volume of this geometry may be written.
@@ -133,10 +133,10 @@ impl Geometry {
     pub fn is_good(self, n: u64) -> bool
         ensures { λ r. ⌜ r ≡ geometryGood n (geometryView self) ⌝ }
     {
-        if self.field < LEAST_FIELD {
+        if self.block_field < LEAST_FIELD {
             return false;
         }
-        if MOST_FIELD < self.field {
+        if MOST_FIELD < self.block_field {
             return false;
         }
         let len = self.block_length();
@@ -155,16 +155,16 @@ impl Geometry {
 
     // The index area's size, and the data area below it.
     pub fn areas_fit(self, n: u64) -> bool
-        requires { ⌜ self .field ≤ 5 ⌝ }
+        requires { ⌜ self .«block_field» ≤ 5 ⌝ }
         ensures { λ r. ⌜ r ≡ areasFit n (geometryView self) ⌝ }
     {
-        if !index_good(self.index) {
+        if !index_good(self.index_bytes) {
             return false;
         }
-        if n < self.index {
+        if n < self.index_bytes {
             return false;
         }
-        self.data_start().has_room(self.data, self.ceiling(n))
+        self.data_start().has_room(self.data_blocks, self.ceiling(n))
     }
 }
 

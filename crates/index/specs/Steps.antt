@@ -290,6 +290,11 @@ module _ (s : List ℕ) (c d : Cursor) where
     ends = r .ends;
   }
 
+  -- an entry starts before the slot that the walk goes on at
+  pub arrives-before : (p : Spot) → Arrives s c p d → spotView s p .slot < d .slot .0
+  unfolding spotView
+  arrives-before p r = omega (arith, r .number, r .spot .low)
+
   pub behind-step : (h : Head) → Step s c h d → Behind c d
   behind-step h r = record {
     edition = r .edition;

@@ -33,15 +33,15 @@ pub enum Kept {
 
 // Whether an index of this geometry has few slots.
 pub fn has_few(g: Geometry) -> bool
-    ensures { λ r. ⌜ (r ≡ true → g .index / 64 ≤ 512) ⌝ }
+    ensures { λ r. ⌜ (r ≡ true → g .«index_bytes» / 64 ≤ 512) ⌝ }
 {
-    units::slots_in(g.index) <= FEW as u64
+    units::slots_in(g.index_bytes) <= FEW as u64
 }
 
 // 6, 7 and 8: three passes over the whole index. The paths are judged before the regions, whose keys are to stay in `keys`. Both slices have room
 // for all slots of the index that can hold entries.
 pub fn judge_index(img: &[u8], g: Geometry, keys: &mut [u64], tmp: &mut [u64]) -> Kept
-    requires { ⌜ SuperGood (now img) g × (min (g .index / 64) 4_094 ≤ length (now keys)) × (length (now keys) ≤ length (now tmp)) ⌝ }
+    requires { ⌜ SuperGood (now img) g × (min (g .«index_bytes» / 64) 4_094 ≤ length (now keys)) × (length (now keys) ≤ length (now tmp)) ⌝ }
     ensures { λ r. ⌜ Keeps (now (img .entry)) (judge (now (img .entry))) (now (keys .exit)) r ⌝ }
 {
     let mut sums = [0u8; sums::ROOM];
@@ -73,7 +73,7 @@ fn verdict(kept: Kept) -> Judged
 
 // An index of few slots, judged with little scratch: in so short a call its clearing counts.
 fn judge_few(img: &[u8], g: Geometry) -> Judged
-    requires { ⌜ SuperGood (now img) g × (g .index / 64 ≤ 512) ⌝ }
+    requires { ⌜ SuperGood (now img) g × (g .«index_bytes» / 64 ≤ 512) ⌝ }
     ensures { λ r. ⌜ judgedView (now (img .entry)) r ≡ judge (now (img .entry)) ⌝ }
 {
     let mut keys = [0u64; FEW];

@@ -1,14 +1,14 @@
 -- The listing's text, one entry at a time, and as its writers cut it.
 use Prim.Native.Nat.{ℕ, _+_, _≤_}
-use mathlib.Core.Path.{_≡_, refl, sym, ap, _∙_}
+use mathlib.Core.Path.{_≡_, refl, ap, _∙_}
 use mathlib.Core.Bool.{Bool, true, false}
 use mathlib.Core.List.{List, [], _∷_, _++_}
 use native.Mathlib.Omega.{arith}
 use lib.ListN.{length, take, length-append, length-take}
 use Rattle.rules.specs.Lists.{pick, only, keepIf}
 use Rattle.rules.specs.Lists.Laws.{pick-true, pick-false}
-use Rattle.rules.specs.Fields.{splice, signedOf}
-use Rattle.rules.specs.Fields.Laws.{splice-nil, splice-splice, length-splice}
+use Rattle.rules.specs.Fields.{signedOf}
+use Rattle.rules.specs.Fields.Laws.{length-splice}
 use Rattle.rules.specs.Index.{Entry, liveType}
 use Rattle.rules.specs.Paths.{isLive}
 use Rattle.rules.specs.Text.{text, decimal}
@@ -86,27 +86,8 @@ module _ (es : List Entry) where
     unfolding liveOne only
     live-next = rw next (length-keep (isLive x) x (only isLive xs))
 
--- ---- the same bytes by another name
-pub wrote-as : (s : List ℕ) (at : ℕ) (xs ys t : List ℕ) (end : ℕ) → xs ≡ ys → Wrote s at xs t end → Wrote s at ys t end
-wrote-as s at xs ys t end e w = rw e at w
-
--- what was written from the start on can be lent
+-- ---- what was written from the start on can be lent
 pub wrote-counts : (s xs t : List ℕ) (end : ℕ) → length xs ≤ length s → Wrote s 0 xs t end → (end ≤ length t) × (end ≡ length (take end t))
 wrote-counts s xs t end h (e, f) =
     let l : length t ≡ length s = ap length e ∙ length-splice s 0 xs (omega arith) in
     (omega arith, omega (arith, length-take end t))
-
--- ---- writing goes on: ys are still to be written into t from `at` on, and then s has xs from o on
-abbrev pub ToWrite : List ℕ → ℕ → List ℕ → List ℕ → ℕ → List ℕ → Type 0
-ToWrite s o xs t at ys = (length t ≡ length s) × (at + length ys ≡ o + length xs) × (splice t at ys ≡ splice s o xs)
-
--- nothing is left
-pub left-none : (s : List ℕ) (o : ℕ) (xs t : List ℕ) (at : ℕ) (ys : List ℕ) → ys ≡ [] → ToWrite s o xs t at ys → Wrote s o xs t at
-left-none s o xs t at ys e (l, n, w) = (sym (splice-nil t at) ∙ (rw e at w), omega (arith, ap length e))
-
--- the first of what is left was written
-pub left-next : (s : List ℕ) (o : ℕ) (xs t : List ℕ) (at : ℕ) (ys u : List ℕ) (end : ℕ) (zs ws : List ℕ) → ys ≡ zs ++ ws → at + length ys ≤ length t → length u ≡ length t
-    → ToWrite s o xs t at ys → Wrote t at zs u end → ToWrite s o xs u end ws
-left-next s o xs t at ys u end zs ws e f k (l, n, w) (v, m) =
-    let lengths : length ys ≡ length zs + length ws = ap length e ∙ length-append zs ws in
-    (omega arith, omega arith, rw (v, m) (splice-splice t at zs ws (omega arith) ∙ (rw e at w)))

@@ -20,13 +20,13 @@ use Rattle.slots.specs.declared.Spot.{Spot}
 use Rattle.slots.specs.View.{headView, spotView, SpotIn, name-short, head-spot}
 use Rattle.index.specs.declared.Cursor.{Cursor}
 use Rattle.index.specs.View.{Behind, behind-itself, behind-on}
-use Rattle.index.specs.Steps.{Walks, entriesFrom, Arrives, Onward, behind-onward, behind-arrives}
+use Rattle.index.specs.Steps.{Walks, entriesFrom, Arrives, Onward, behind-onward, behind-arrives, arrives-before}
 use Rattle.paths.specs.declared.Sought.{Sought}
 use Rattle.paths.specs.declared.Way.{Way}
 use Rattle.paths.specs.declared.Way.the-variants.{On, At}
 use Rattle.paths.specs.declared.Hit.{Hit}
 use Rattle.paths.specs.declared.Hit.the-variants.{Nothing as noHit, Entry as hitAt}
-use Rattle.paths.specs.View.{soughtKind, passes, compares, OfRuns, nameOf, spotLooked, LookedFrom, Hits, hits-none, hits-some, HitOf, no-hit-of, some-hit-of}
+use Rattle.paths.specs.View.{soughtKind, passes, compares, OfRuns, nameOf, spotLooked, LookedFrom, Hits, hits-none, hits-read, HitOf, no-hit-of, some-hit-of}
 use Rattle.paths.specs.Entries.{only-end, only-stop, only-next, compared-run, sought-entry, unsought}
 
 -- ---- one entry
@@ -102,11 +102,7 @@ module _ (s : List ℕ) (what : Sought) (p : List ℕ) (c : Cursor) where
       pub going-found : passes what p (spotView s e) ≡ true → (h : Head) → headView s h ≡ headOf (editionView (e .edition)) (e .slot .0) (drop (e .at .0) s) → h .edition ≡ e .edition → h .at .0 ≡ e .at .0 → Comes (hitAt h d′) (n + m)
       going-found t h view own place =
           let same : spotView s e ≡ headView s h = step .view ∙ sym view in (
-            hits-some _ _ _ h d′ (record {
-              chosen = sym (going .chosen) ∙ rw (← same) (only-stop _ _ _ _ (step .entries) t);
-              head = head-spot s e h same own place (step .spot);
-              walks = step .walks;
-            }),
+            hits-read _ _ _ (spotView s e) h d′ (sym (going .chosen) ∙ only-stop _ _ _ _ (step .entries) t) same (head-spot s e h same own place (step .spot)) (step .walks) (arrives-before s d d′ e step),
             (
               λ g o q. ap (λ (k : ℕ). n + k) (sym (looked-stop s g _ _ p _ _ _ (step .entries) t ∙ here g o q)) ∙ going .count g o q,
               some-hit-of c h d′ (own ∙ step .of ∙ going .behind .edition) (behind-on c d d′ (going .behind) (behind-arrives s d d′ e step)),

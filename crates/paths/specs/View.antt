@@ -1,19 +1,19 @@
 -- The code's answers in the rules' words.
-use Prim.Native.Nat.{ℕ}
+use Prim.Native.Nat.{ℕ, _<_}
 use mathlib.Core.Path.{_≡_, refl, sym, ap, _∙_}
 use mathlib.Core.Bool.{Bool, true, false, _&&_, _||_}
 use mathlib.Core.List.{List, [], _∷_}
 use mathlib.Core.Option.{Option, none, some}
 use mathlib.Core.Logic.{_⊎_}
+use native.Mathlib.Omega.{arith}
 use lib.ListN.{drop}
-use lib.Dec.{eqb, leb}
+use lib.Dec.{eqb}
 use Rattle.rules.specs.Lists.{pick, isSome, only, first, eqList}
 use Rattle.rules.specs.Lists.Laws.{first-chosen, first-unchosen}
 use Rattle.rules.specs.Editions.{Edition}
 use Rattle.rules.specs.SuperBlock.{Geometry}
 use Rattle.rules.specs.Names.{slash, isBelow}
 use Rattle.rules.specs.Index.{Entry, runType, staleType, nameField, slotAt}
-use Rattle.rules.specs.Paths.{isLive}
 use Rattle.rules.specs.Comparing.{looked, searchLooked}
 use Rattle.editions.specs.View.{editionView}
 use Rattle.editions.specs.declared.Edition.{Edition as Held}
@@ -53,10 +53,6 @@ pub record OfRuns (ed : Edition) (what : Sought) : Type 0 where
   pub one : StartsRun ed (what .one)
   pub other : StartsRun ed (what .other)
   pub end : (what .end ≡ 0) ⊎ (what .end ≡ slash)
-
--- by slots
-unfoldable pub liveFrom : ℕ → Entry → Bool
-liveFrom k e = isLive e && leb k (e .slot)
 
 -- the name of the run at a spot, by all its bytes, and how many of them are looked at
 abbrev pub nameOf : List ℕ → Spot → List ℕ
@@ -124,6 +120,7 @@ pub record HitAt (s : List ℕ) (p : Entry → Bool) (es : List Entry) (h : Head
   pub chosen : only p es ≡ headView s h ∷ only p (entriesFrom s rest)
   pub head : HeadIn s h
   pub walks : Walks s rest
+  pub passed : h .slot .0 < rest .slot .0
 
 unfoldable pub Hits : List ℕ → (Entry → Bool) → List Entry → Hit → Type 0
 Hits s p es noHit = only p es ≡ []
@@ -138,10 +135,23 @@ module _ (s : List ℕ) (p : Entry → Bool) (es : List Entry) where
   unfolding Hits
   hits-some h rest k = k
 
+  -- an entry by where it stands, and its numbers as they were read
+  pub hits-read : (x : Entry) (h : Head) (rest : Cursor) → only p es ≡ x ∷ only p (entriesFrom s rest) → x ≡ headView s h → HeadIn s h → Walks s rest → x .slot < rest .slot .0 → Hits s p es (hitAt h rest)
+  unfolding headView
+  hits-read x h rest e same i w l = hits-some h rest (record {
+    chosen = e ∙ ap (λ y. y ∷ only p (entriesFrom s rest)) same;
+    head = i;
+    walks = w;
+    passed = omega (arith, l, ap (λ (y : Entry). y .slot) same);
+  })
+
   module _ (r : Hit) (told : Hits s p es r) where
-    pub hit-nothing : r ≡ noHit → first p es ≡ none
+    pub hit-none : r ≡ noHit → only p es ≡ []
     unfolding Hits
-    hit-nothing e = first-unchosen p es (rw e at told)
+    hit-none e = rw e at told
+
+    pub hit-nothing : r ≡ noHit → first p es ≡ none
+    hit-nothing e = first-unchosen p es (hit-none e)
 
     pub hit-entry : (h : Head) (rest : Cursor) → r ≡ hitAt h rest → HitAt s p es h rest
     unfolding Hits

@@ -17,7 +17,7 @@ ghost use mathlib.Core.List.{List};
 ghost use Prim.Native.Nat.{ℕ};
 ghost use Rattle.rules.specs.Lists.{any, first};
 ghost use Rattle.rules.specs.Index.{runType};
-ghost use Rattle.rules.specs.Paths.{isLive, liveAt, deletedAt, lookup, nextLive, directoryLive, anyBelow};
+ghost use Rattle.rules.specs.Paths.{isLive, liveAt, deletedAt, lookup, liveFrom, directoryLive, anyBelow};
 ghost use Rattle.rules.specs.Comparing.{looked};
 ghost use Rattle.comparing.specs.Walk.{isThen};
 ghost use Rattle.editions.specs.View.{editionView};
@@ -25,7 +25,7 @@ ghost use Rattle.slots.specs.View.{spotView, SpotIn};
 ghost use Rattle.index.specs.View.{SumsFrom};
 ghost use Rattle.index.specs.Steps.{Walks, entriesFrom};
 ghost use Rattle.paths.specs.Searching.{FewLooked, Goes, Ends};
-ghost use Rattle.paths.specs.View.{Hits, HitOf, Searched, FoundOf, isFound, passes, soughtKind, compares, OfRuns, liveFrom, nameOf, spotLooked, LookedFrom};
+ghost use Rattle.paths.specs.View.{Hits, HitOf, Searched, FoundOf, isFound, passes, soughtKind, compares, OfRuns, nameOf, spotLooked, LookedFrom};
 
 // The entry that a search found.
 pub enum Search {
@@ -290,20 +290,20 @@ fn is_from(e: Spot, slot: Slot) -> bool
     slots::is_live(e.kind) && slot.is_at_or_before(e.slot)
 }
 
-// The live entry with the lowest first slot not below this one.
-pub fn next_live(img: &[u8], sums: &[u8], from: Cursor, slot: Slot) -> Search
+// The live entry with the lowest first slot not below this one, and where the walk goes on behind it.
+pub fn next_live(img: &[u8], sums: &[u8], from: Cursor, slot: Slot) -> Hit
     requires { ⌜ Walks (now img) from × SumsFrom (now img) (now sums) from ⌝ }
-    ensures { λ r. ⌜ Searched (now (img .entry)) (nextLive (slot .0) (entriesFrom (now (img .entry)) from)) r ⌝ }
-    ensures edition { λ r. ⌜ FoundOf (from .edition) r ⌝ }
+    ensures { λ r. ⌜ Hits (now (img .entry)) (liveFrom (slot .0)) (entriesFrom (now (img .entry)) from) r ⌝ }
+    ensures place { λ r. ⌜ HitOf from r ⌝ }
 {
     let mut at = from;
     loop {
         match next_spot(img, sums, at) {
-            Stop::End => return Search::Nothing,
+            Stop::End => return Hit::Nothing,
             Stop::At(e, rest) => {
                 if is_from(e, slot) {
                     let h = slots::head_at(img, e.edition, e.at, e.slot);
-                    return Search::Entry(h);
+                    return Hit::Entry(h, rest);
                 }
                 at = rest;
             }

@@ -64,9 +64,9 @@ headAt at end p kind bytes stamp = record {
 -- the same in an image of n bytes, with its end as it is stored
 abbrev pub siteHead : ℕ → Site → ℕ → ℕ → ℕ → Head
 siteHead n p kind bytes stamp =
-    headAt (record { 0 = n - p .new .index + slotBytes * p .slot .0 }) (record { 0 = storedEnd (editionView (p .new .edition)) (p .end .0) }) p kind bytes stamp
+    headAt (record { 0 = n - p .new .«index_bytes» + slotBytes * p .slot .0 }) (record { 0 = storedEnd (editionView (p .new .edition)) (p .end .0) }) p kind bytes stamp
 
-pub head-is : (n : ℕ) (p : Site) (kind bytes stamp index : ℕ) (at : Offset) (end : Block) → index ≡ n - p .new .index → at .0 ≡ index + slotBytes * p .slot .0
+pub head-is : (n : ℕ) (p : Site) (kind bytes stamp index : ℕ) (at : Offset) (end : Block) → index ≡ n - p .new .«index_bytes» → at .0 ≡ index + slotBytes * p .slot .0
     → end .0 ≡ storedEnd (editionView (p .new .edition)) (p .end .0) → headAt at end p kind bytes stamp ≡ siteHead n p kind bytes stamp
 head-is n p kind bytes stamp index at end e f g =
     ap₂ (λ (k b : ℕ). headAt (record { 0 = k }) (record { 0 = b }) p kind bytes stamp) (f ∙ ap (λ (k : ℕ). k + slotBytes * p .slot .0) e) g

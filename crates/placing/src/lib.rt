@@ -41,10 +41,10 @@ fn put_blocks(img: &mut [u8], p: Site, bytes: &[u8])
 
 // The head of the run, in an image of `len` bytes, with its end as it is stored.
 fn head_of(len: u64, p: Site, kind: u8, bytes: u64, stamp: u64) -> Head
-    requires { ⌜ (len ≤ 16_777_216) × (p .new .index ≤ len) × (slotBytes * p .slot .0 ≤ p .new .index) ⌝ }
+    requires { ⌜ (len ≤ 16_777_216) × (p .new .«index_bytes» ≤ len) × (slotBytes * p .slot .0 ≤ p .new .«index_bytes») ⌝ }
     ensures { λ r. ⌜ r ≡ siteHead len p kind bytes stamp ⌝ }
 {
-    let index = units::index_start(len, p.new.index);
+    let index = units::index_start(len, p.new.index_bytes);
     let edition = p.new.edition;
     let slot = p.slot;
     let start = p.start;

@@ -67,7 +67,7 @@ fn place_run(img: &[u8], sums: &[u8], g: Geometry, from: Cursor, path: &[u8], n:
 // The lowest k free blocks below the ceiling block of `grown`, the geometry after any growth of the index; no blocks stand at 0. The keys of all
 // regions stand in order from place i of `keys` on.
 fn place_file(img: &[u8], grown: Geometry, keys: &[u64], i: usize, k: u64) -> Free
-    requires { ⌜ (grown .field ≤ 5) × (grown .index ≤ length (now img)) ⌝ }
+    requires { ⌜ (grown .«block_field» ≤ 5) × (grown .«index_bytes» ≤ length (now img)) ⌝ }
     ensures { λ r. ⌜ ((es : List Entry) → HasRegions es (drop i (now (keys .entry))) → freeView r ≡ placeFile (length (now (img .entry))) (geometryView grown) es k) ⌝ }
 {
     if k == 0 {
@@ -98,7 +98,7 @@ fn slots_for(ed: Edition, file: bool, path: &[u8]) -> u64
 
 // The blocks that the bytes need; a directory needs none.
 fn blocks_for(g: Geometry, file: bool, bytes: &[u8]) -> u64
-    requires { ⌜ g .field ≤ 5 ⌝ }
+    requires { ⌜ g .«block_field» ≤ 5 ⌝ }
     ensures { λ r. ⌜ r ≡ newBlocks (geometryView g) (newOf file (now (bytes .entry))) ⌝ }
 {
     let len = g.block_length();
@@ -204,7 +204,7 @@ fn plan_judged(
     bytes: &[u8],
     stamp: u64,
 ) -> Plan
-    requires { ⌜ SuperGood (now img) g × (min (g .index / 64) 4_094 ≤ length (now keys)) × (length (now keys) ≤ length (now tmp)) ⌝ }
+    requires { ⌜ SuperGood (now img) g × (min (g .«index_bytes» / 64) 4_094 ≤ length (now keys)) × (length (now keys) ≤ length (now tmp)) ⌝ }
     ensures { λ r. ⌜ Planned (now (img .entry)) (newOf file (now (bytes .entry))) (now (path .entry)) (signedOf stamp) r ⌝ }
 {
     match judging::judge_index(img, g, keys, tmp) {
@@ -215,7 +215,7 @@ fn plan_judged(
 
 // The same with scratch for an index of few slots.
 fn plan_few(img: &[u8], g: Geometry, file: bool, path: &[u8], bytes: &[u8], stamp: u64) -> Plan
-    requires { ⌜ SuperGood (now img) g × (g .index / 64 ≤ 512) ⌝ }
+    requires { ⌜ SuperGood (now img) g × (g .«index_bytes» / 64 ≤ 512) ⌝ }
     ensures { λ r. ⌜ Planned (now (img .entry)) (newOf file (now (bytes .entry))) (now (path .entry)) (signedOf stamp) r ⌝ }
 {
     let mut keys = [0u64; judging::FEW];

@@ -1,7 +1,7 @@
 -- Find, read and list of an entry that was found: the last steps of the calls, how its end is given, and where a file's bytes lie.
 use Prim.Native.Nat.{ℕ, _+_, _*_, _≤_, _<_}
 use mathlib.Core.Path.{_≡_, ap, _∙_}
-use mathlib.Core.Bool.{true, _&&_}
+use mathlib.Core.Bool.{true}
 use mathlib.Core.List.{List}
 use mathlib.Core.Option.{some}
 use lib.ListN.{length}
@@ -14,7 +14,7 @@ use Rattle.rules.specs.SuperBlock.{Geometry, blockLength}
 use Rattle.rules.specs.Names.{pathGood}
 use Rattle.rules.specs.Lists.Laws.{and-true}
 use Rattle.rules.specs.Regions.{regionGood}
-use Rattle.rules.specs.Paths.{lookup, liveAt, isLive, nextLive}
+use Rattle.rules.specs.Paths.{lookup, liveAt, isLive, liveFrom, nextLive}
 use Rattle.rules.specs.Paths.Laws.{live-run}
 use Rattle.rules.specs.Index.{Entry, typeFile, runType, liveType}
 use Rattle.rules.specs.Refusals.{need, accepted, Volume, entries, judge}
@@ -107,7 +107,7 @@ list-found s v opens slot e out f ed of = rw of (volume-judged noneListed s out 
 
 -- what is live has a run
 pub next-run : (slot : ℕ) (es : List Entry) (e : Entry) → nextLive slot es ≡ some e → runType (e .kind) ≡ true
-unfolding nextLive isLive
+unfolding nextLive liveFrom isLive
 next-run slot es e f =
-    let p = first-says (λ x. isLive x && leb slot (x .slot)) es e f .passes in
+    let p = first-says (liveFrom slot) es e f .passes in
     live-run (e .kind) (and-true (liveType (e .kind)) (leb slot (e .slot)) p .0)

@@ -7,6 +7,7 @@ use contracts::Volume;
 use geometry::Geometry;
 use judging::Judged;
 use paths::Found;
+use paths::Hit;
 use paths::Search;
 use slots::Head;
 use units::Slot;
@@ -42,8 +43,8 @@ fn no_volume(n: u32) -> Volume
         total: 0,
         reserved: 0,
         block_length: 0,
-        data: 0,
-        index: 0,
+        data_blocks: 0,
+        index_bytes: 0,
         stamp: 0,
         volume_stamp: 0,
         name_length: 0,
@@ -52,7 +53,7 @@ fn no_volume(n: u32) -> Volume
 
 // The numbers of a volume whose name has n bytes.
 fn volume_numbers(img: &[u8], g: Geometry, n: usize) -> Volume
-    requires { ⌜ (64 ≤ length (now img)) × (g .field ≤ 5) × (n ≡ length (volumeName (now img))) ⌝ }
+    requires { ⌜ (64 ≤ length (now img)) × (g .«block_field» ≤ 5) × (n ≡ length (volumeName (now img))) ⌝ }
     ensures { λ r. ⌜ (r .refusal ≡ 0) × (volumeAnswer r ≡ volumeNumbers (now (img .entry)) (geometryView g)) ⌝ }
 {
     let ed = g.edition;
@@ -63,8 +64,8 @@ fn volume_numbers(img: &[u8], g: Geometry, n: usize) -> Volume
         total: g.total,
         reserved: g.reserved as u64,
         block_length: g.block_length(),
-        data: g.data,
-        index: g.index,
+        data_blocks: g.data_blocks,
+        index_bytes: g.index_bytes,
         stamp: stamps::from_bits(g.stamp),
         volume_stamp: stamps::from_bits(ends::volume_stamp(img)),
         name_length: n as u64,
@@ -274,8 +275,8 @@ fn list_from(img: &[u8], g: Geometry, slot: Slot, out: &mut [u8]) -> Listed
     let mut sums = [0u8; sums::ROOM];
     let from = super_block::first_slot(img, g, &mut sums);
     match paths::next_live(img, &sums, from, slot) {
-        Search::Nothing => none_listed(0),
-        Search::Entry(h) => list_entry(img, h, out),
+        Hit::Nothing => none_listed(0),
+        Hit::Entry(h, _) => list_entry(img, h, out),
     }
 }
 

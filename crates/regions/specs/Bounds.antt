@@ -16,8 +16,8 @@ use Rattle.geometry.specs.View.{geometryView}
 
 -- no product of blocks and bytes per block passes 64 bits, and the ends of regions fit in their keys
 pub record Bounded (g : Geometry) : Type 0 where
-  pub field : g .field ≤ 5
-  pub area : g .reserved + g .«data» ≤ 65_536
+  pub field : g .«block_field» ≤ 5
+  pub area : g .reserved + g .«data_blocks» ≤ 65_536
 
 pub good-bounded : (n : ℕ) (g : Geometry) → GoodGeometry n (geometryView g) → n ≤ 16_777_216 → Bounded g
 unfolding dataEnd

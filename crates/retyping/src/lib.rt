@@ -30,7 +30,7 @@ fn place_of(img: &[u8], g: Geometry, slot: Slot) -> Offset
     requires { ⌜ Opened (now img) g × (slotAt (now img) (geometryView g) (slot .0) + slotBytes ≤ length (now img)) ⌝ }
     ensures { λ r. ⌜ r .0 ≡ slotAt (now (img .entry)) (geometryView g) (slot .0) ⌝ }
 {
-    let start = units::index_start(img.len() as u64, g.index);
+    let start = units::index_start(img.len() as u64, g.index_bytes);
     slot.offset(start)
 }
 

@@ -17,6 +17,7 @@ use Rattle.rules.specs.Paths.{isLive}
 use Rattle.rules.specs.Refusals.{accepted, Volume, entries, judge}
 use Rattle.rules.specs.Outcome.{Outcome, done}
 use Rattle.rules.specs.Reading.{openOf, findOf, listOf, readOf}
+use Rattle.rules.specs.Records.{listAllOf}
 use Rattle.rules.specs.Writing.{New, kindOf, bytesOf, formatOf, createOf, deleteOf, restoreOf, reclaimOf}
 pub mod Laws
 
@@ -26,6 +27,7 @@ pub data Call : Type 0 where
   openVolume : List ℕ → Call
   find : List ℕ → Call
   list : ℕ → List ℕ → Call
+  listAll : ℕ → List ℕ → Call
   read : List ℕ → List ℕ → Call
   create : New → List ℕ → ℤ → Call
   delete : List ℕ → ℤ → Call
@@ -45,6 +47,7 @@ step s (format version bytesPerBlock reserved name stamp) = passed (formatOf s v
 step s (openVolume out) = passed (openOf s out)
 step s (find path) = passed (findOf s path)
 step s (list slot out) = passed (listOf s slot out)
+step s (listAll slot out) = passed (listAllOf s slot out)
 step s (read path out) = passed (readOf s path out)
 step s (create new path stamp) = passed (createOf s new path stamp)
 step s (delete path stamp) = passed (deleteOf s path stamp)
@@ -116,6 +119,7 @@ fed h (format version bytesPerBlock reserved name stamp) =
 fed h (openVolume out) = h
 fed h (find path) = h
 fed h (list slot out) = h
+fed h (listAll slot out) = h
 fed h (read path out) = h
 fed h (create new path stamp) =
     let k : Kept = keptOf (h .blockBytes) new path in

@@ -12,6 +12,7 @@ pub mod Paths
 pub mod Refusals
 pub mod Outcome
 pub mod Reading
+pub mod Records
 pub mod Writing
 pub mod History
 pub mod Dates

@@ -5,10 +5,12 @@ use mathlib.Core.List.{List, [], _∷_, _++_}
 use lib.ListN.{length}
 use lib.Dec.{leb}
 use Rattle.rules.specs.Lists.{pick, only}
+use Rattle.rules.specs.Fields.{splice}
 use Rattle.rules.specs.Index.{Entry, fileType, volumeName}
 use Rattle.rules.specs.Regions.{heldBlocks}
 use Rattle.rules.specs.Paths.{isLive}
 use Rattle.rules.specs.Refusals.{Verdict, refused, accepted, need, Volume, entries, judge}
+use Rattle.rules.specs.Outcome.{Outcome, done, conclude}
 use Rattle.rules.specs.Text.{text, joined, decimal}
 use Rattle.rules.specs.Dates.{momentOf, momentText}
 
@@ -43,3 +45,10 @@ volumeText s (accepted v) = (volumeName s ++ text "\n") ++ (linesOf (only isLive
 -- more than 65,536 bytes are refusal 1
 unfoldable pub listingOf : List ℕ → List ℕ
 listingOf s = volumeText s (need (leb (length s) 65_536) 1 (judge s))
+
+-- ---- the text as a call: its length, and the text at the start of an output that any text fits, else 18
+unfoldable pub textOf : List ℕ → List ℕ → Outcome ℕ
+textOf s out =
+    conclude 0 s out
+    (need (leb 131_072 (length out)) 18
+    (accepted (done (length (listingOf s)) s (splice out 0 (listingOf s)))))

@@ -50,6 +50,10 @@ pathsSound es = everyTwo pathsDiffer es && all (λ e. not (isLive e) || director
 unfoldable pub anyBelow : List ℕ → List Entry → Bool
 anyBelow p es = any (λ e. isLive e && isBelow p (e .path)) es
 
+-- live, and its first slot is not below k
+unfoldable pub liveFrom : ℕ → Entry → Bool
+liveFrom k e = isLive e && leb k (e .slot)
+
 -- the live entry with the lowest first slot not below k. Entries stand in slot order.
 unfoldable pub nextLive : ℕ → List Entry → Option Entry
-nextLive k es = first (λ e. isLive e && leb k (e .slot)) es
+nextLive k es = first (liveFrom k) es

@@ -3,8 +3,19 @@
 use contracts::Content;
 use contracts::Entry;
 use contracts::Listed;
+use contracts::Records;
 use contracts::Volume;
-ghost use Rattle.contracts.specs.Contracts.{Formats, OpensVolume, Finds, Lists, Reads, CreatesFile, CreatesDirectory, Deletes, Restores, Reclaims, WritesListing};
+ghost use Rattle.contracts.specs.Contracts.{TellsApi, Formats, OpensVolume, Finds, Lists, ListsAll, Reads, CreatesFile, CreatesDirectory, Deletes, Restores, Reclaims, WritesListing};
+
+// The number of the interface, raised whenever a struct or an argument changes.
+const API: u32 = 1;
+
+#[no_mangle]
+pub extern "C" fn sfs_api() -> u32
+    ensures { λ r. ⌜ TellsApi r ⌝ }
+{
+    API
+}
 
 #[no_mangle]
 pub extern "C" fn sfs_format(
@@ -46,6 +57,13 @@ pub extern "C" fn sfs_list(image: &[u8], slot: u64, out: &mut [u8]) -> Listed
     ensures { λ r. ⌜ Lists (now (image .entry)) slot (now (out .entry)) r (now (out .exit)) ⌝ }
 {
     reading::list(image, slot, out)
+}
+
+#[no_mangle]
+pub extern "C" fn sfs_list_all(image: &[u8], slot: u64, out: &mut [u8]) -> Records
+    ensures { λ r. ⌜ ListsAll (now (image .entry)) slot (now (out .entry)) r (now (out .exit)) ⌝ }
+{
+    records::list_all(image, slot, out)
 }
 
 #[no_mangle]
@@ -92,11 +110,18 @@ pub extern "C" fn sfs_reclaim(image: &mut [u8], stamp: i64) -> u32
 
 // The listing program's text, in an output that any text fits.
 #[no_mangle]
-pub extern "C" fn sfs_listing(image: &[u8], out: &mut [u8]) -> u64
+pub extern "C" fn sfs_listing(image: &[u8], out: &mut [u8]) -> Content
     ensures { λ r. ⌜ WritesListing (now (image .entry)) (now (out .entry)) r (now (out .exit)) ⌝ }
 {
     if out.len() < listing::ROOM {
-        return 0;
+        return Content {
+            refusal: 18,
+            length: 0,
+        };
     }
-    listing::listing(image, out) as u64
+    let n = listing::listing(image, out);
+    Content {
+        refusal: 0,
+        length: n as u64,
+    }
 }

@@ -51,9 +51,9 @@ module _ (ed : Edition) (s : List ℕ) where
   field-read = let e : superBlockAt ed + 40 ≡ blockFieldAt ed = omega arith in ap (λ (i : ℕ). getD s i 0) e
 
   pub geometry-by : (g : Held) → editionView (g .edition) ≡ ed
-      → g .stamp ≡ le 8 s (superBlockAt ed + 0) → g .«data» ≡ le 8 s (superBlockAt ed + 8) → g .index ≡ le 8 s (superBlockAt ed + 16)
+      → g .stamp ≡ le 8 s (superBlockAt ed + 0) → g .«data_blocks» ≡ le 8 s (superBlockAt ed + 8) → g .«index_bytes» ≡ le 8 s (superBlockAt ed + 16)
       → g .version ≡ getD s (superBlockAt ed + 27) 0 → g .total ≡ le 8 s (superBlockAt ed + 28) → g .reserved ≡ le 4 s (superBlockAt ed + 36)
-      → g .field ≡ getD s (superBlockAt ed + 40) 0
+      → g .«block_field» ≡ getD s (superBlockAt ed + 40) 0
       → geometryView g ≡ geometryOf ed s
   unfolding geometryOf stampIn
   geometry-by g of a b c d e f h =

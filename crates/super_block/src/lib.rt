@@ -72,12 +72,12 @@ fn read_geometry(img: &[u8], ed: Edition) -> Geometry
     Geometry {
         edition,
         stamp: fields::le64_at(img, place(ed, STAMP)),
-        data: fields::le64_at(img, place(ed, DATA)),
-        index: fields::le64_at(img, place(ed, INDEX)),
+        data_blocks: fields::le64_at(img, place(ed, DATA)),
+        index_bytes: fields::le64_at(img, place(ed, INDEX)),
         version: byte_at(img, ed, VERSION),
         total: fields::le64_at(img, place(ed, TOTAL)),
         reserved: fields::le32_at(img, place(ed, RESERVED)),
-        field: byte_at(img, ed, FIELD),
+        block_field: byte_at(img, ed, FIELD),
     }
 }
 
@@ -177,13 +177,13 @@ pub fn judge_super(img: &[u8]) -> SuperBlock
 // walks from there go.
 pub fn first_slot(img: &[u8], g: Geometry, sums: &mut [u8]) -> Cursor
     requires { ⌜ Judged (now img) g × (4_096 ≤ length (now sums)) ⌝ }
-    ensures { λ r. ⌜ (itemsFrom (now (img .entry)) r ≡ itemsOf (now (img .entry)) (geometryView g)) × Inside (now (img .entry)) r × (r .at .0 ≡ slotAt (now (img .entry)) (geometryView g) (r .slot .0)) × (r .left ≤ 4094) × (r .left ≤ g .index / 64) × (r .edition ≡ g .edition) × SumsFrom (now (img .entry)) (now (sums .exit)) r ⌝ }
+    ensures { λ r. ⌜ (itemsFrom (now (img .entry)) r ≡ itemsOf (now (img .entry)) (geometryView g)) × Inside (now (img .entry)) r × (r .at .0 ≡ slotAt (now (img .entry)) (geometryView g) (r .slot .0)) × (r .left ≤ 4094) × (r .left ≤ g .«index_bytes» / 64) × (r .edition ≡ g .edition) × SumsFrom (now (img .entry)) (now (sums .exit)) r ⌝ }
 {
     let edition = g.edition;
-    let start = units::index_start(img.len() as u64, g.index);
+    let start = units::index_start(img.len() as u64, g.index_bytes);
     let slot = Slot::at(1);
     let at = slot.offset(start);
-    let left = units::slots_in(g.index) - ends::SLOTS;
+    let left = units::slots_in(g.index_bytes) - ends::SLOTS;
     sums::take(img, edition, at, slot, left, sums);
     Cursor {
         edition,
@@ -213,8 +213,8 @@ pub fn put_sizes(img: &mut [u8], g: Geometry)
 {
     let ed = g.edition;
     fields::put_stamp(img, place(ed, STAMP), g.stamp);
-    fields::put_le(img, place(ed, DATA), 8, g.data);
-    fields::put_le(img, place(ed, INDEX), 8, g.index);
+    fields::put_le(img, place(ed, DATA), 8, g.data_blocks);
+    fields::put_le(img, place(ed, INDEX), 8, g.index_bytes);
 }
 
 // Magic to block size field: what the checksum is over. The magic is a number of three bytes.
@@ -227,7 +227,7 @@ fn put_summed(img: &mut [u8], g: Geometry)
     fields::put_le(img, place(ed, VERSION), 1, fields::wide(g.version));
     fields::put_le(img, place(ed, TOTAL), 8, g.total);
     fields::put_le(img, place(ed, RESERVED), 4, g.reserved as u64);
-    fields::put_le(img, place(ed, FIELD), 1, fields::wide(g.field));
+    fields::put_le(img, place(ed, FIELD), 1, fields::wide(g.block_field));
 }
 
 // The whole super-block.

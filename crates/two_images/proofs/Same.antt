@@ -4,11 +4,13 @@ use mathlib.Core.Path.{_≡_, sym, ap, ap₂, _∙_}
 use mathlib.Core.List.{List}
 use Rattle.rules.specs.Outcome.{Outcome, EntryNumbers, ListedNumbers}
 use Rattle.rules.specs.History.{Agree, SameAnswer}
-use Rattle.contracts.specs.Contracts.{Finds, Lists, Reads}
+use Rattle.rules.specs.Records.{RecordsNumbers}
+use Rattle.contracts.specs.Contracts.{Finds, Lists, ListsAll, Reads}
 use Rattle.contracts.specs.declared.Entry.{Entry}
 use Rattle.contracts.specs.declared.Listed.{Listed}
 use Rattle.contracts.specs.declared.Content.{Content}
-use Rattle.two_images.proofs.TwoImages.{two-images}
+use Rattle.contracts.specs.declared.Records.{Records}
+use Rattle.two_images.proofs.TwoImages.{two-images, all-alike}
 
 -- ---- an answer is its refusal and its numbers
 abbrev entryOf : ℕ → EntryNumbers → Entry
@@ -28,6 +30,9 @@ listedOf n a = record {
 
 abbrev contentOf : ℕ → ℕ → Content
 contentOf n k = record { refusal = n; length = k }
+
+abbrev recordsOf : ℕ → RecordsNumbers → Records
+recordsOf n a = record { refusal = n; count = a .count; length = a .length; next = a .next }
 
 -- ---- outcomes with the same answer
 module _ {A : Type 0} {o p q r : Outcome A} (first : q ≡ o) (second : r ≡ p) (same : SameAnswer o p) where
@@ -57,3 +62,9 @@ module _ (s t : List ℕ) (agree : Agree s t) where
   same-listed slot out a b after again e f =
       let h = two-images s t agree .lists slot out in
       (ap₂ {C = Listed} listedOf (refusals e f h) (answers e f h), outputs e f h)
+
+  pub same-records : (slot : ℕ) (out : List ℕ) (a b : Records) (after again : List ℕ) → ListsAll s slot out a after → ListsAll t slot out b again
+      → (a ≡ b) × (after ≡ again)
+  same-records slot out a b after again e f =
+      let h = all-alike s t (two-images s t agree .lists) slot out in
+      (ap₂ {C = Records} recordsOf (refusals e f h) (answers e f h), outputs e f h)

@@ -1,11 +1,11 @@
 -- 01, the end of "The calls": two images that open and agree in the super-block, the index area and the blocks of live files
--- give equal answers to find, read and list. Assumes nothing.
-use Prim.Native.Nat.{ℕ, _*_}
+-- give equal answers to find, read and list, and so to list all. Assumes nothing.
+use Prim.Native.Nat.{ℕ, zero, suc, _*_}
 use mathlib.Core.Path.{_≡_, refl, sym, ap, ap₂, _∙_}
 use mathlib.Core.Bool.{Bool, true, false}
 use mathlib.Core.List.{List, []}
 use mathlib.Core.Option.{Option, none, some}
-use lib.ListN.{length}
+use lib.ListN.{length, drop}
 use lib.Dec.{eqb, leb}
 use borrow.Author.Tests.{eqb-true}
 use Rattle.rules.specs.Lists.{part}
@@ -23,6 +23,7 @@ use Rattle.rules.specs.Refusals.{Verdict, accepted, need, needFound, andThen, V
 use Rattle.rules.specs.Refusals.Laws.{judge-opens, edition-same}
 use Rattle.rules.specs.Outcome.{Outcome, done, conclude, onVolume, noEntry, numbersOf, noneListed}
 use Rattle.rules.specs.Reading.{findOf, readOf, listOf, listed, fileBytes}
+use Rattle.rules.specs.Records.{numberBytes, recordOf, recordStep, recordsFrom, noRecords, recordsOutcome, listAllOf}
 use Rattle.rules.specs.History.{Agree, SameAnswer, TwoImages}
 use Rattle.laws.proofs.Lists.Parts.{some-same}
 use Rattle.laws.proofs.Lists.Every.{only-says, first-says, all-first}
@@ -129,3 +130,18 @@ two-images s t a =
       reads = same-read s t (a .volume) (a .opens) second (same-bytes s t a);
       lists = same-list s t (a .volume) (a .opens) second;
     }
+
+-- ---- list all is list's answers one after the other, so that it answers alike, too
+module _ (s t : List ℕ) (lists : (slot : ℕ) (out : List ℕ) → SameAnswer (listOf s slot out) (listOf t slot out)) where
+  recorded-alike : (steps slot : ℕ) (out : List ℕ) → recordsFrom steps s slot out ≡ recordsFrom steps t slot out
+  unfolding recordsFrom recordStep recordOf
+  recorded-alike zero slot out = refl
+  recorded-alike (suc n) slot out =
+      let a = lists slot (drop numberBytes out) in
+      rw (a .refusals, a .answers, a .outputs, recorded-alike n)
+
+  pub all-alike : (slot : ℕ) (out : List ℕ) → SameAnswer (listAllOf s slot out) (listAllOf t slot out)
+  unfolding listAllOf recordsOutcome
+  all-alike slot out =
+      rw (recorded-alike (suc (length out)) slot out)
+      (alike-need noRecords s t out _ _ _ _ (λ _. alike-done noRecords s t out _ _ _ refl))

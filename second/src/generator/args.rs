@@ -20,7 +20,7 @@ pub fn scene(w: &mut Writer) {
     for _ in 0..3 {
         format_argument(w);
     }
-    w.list_all(8);
+    w.list_each(8);
     w.put("history".to_string());
 }
 
@@ -70,6 +70,10 @@ fn number_argument(w: &mut Writer) {
     let slot = w.rng.pick(&[0, 1, 2, 3, 4, 5, 6, 63, 64, u64::MAX, u64::MAX - 1, 1 << 32, 1 << 63]);
     let room = w.rng.pick(&[0, 1, 2, 3, 285]);
     w.put(format!("list {slot} {room}"));
+    if w.rng.chance(40) {
+        let live = w.live();
+        w.list_all_from(slot, &live);
+    }
     let stamp = w.rng.pick(&[i64::MIN, i64::MAX, 0, -1]);
     w.put(format!("reclaim {stamp}"));
 }

@@ -72,7 +72,7 @@ fn nearly_full_index(w: &mut Writer) {
     bring_back(w);
     w.reclaim();
     bring_back(w);
-    w.list_all(2);
+    w.list_each(2);
 }
 
 const VERSION_1_0_ONLY: u64 = 0;
@@ -311,8 +311,8 @@ pub fn slots_for(edition: Edition, kind: u8, bytes: usize) -> u64 {
 /// Looks at everything, then writes into the holes.
 fn probe(w: &mut Writer) {
     w.open();
-    w.list_all(6);
-    w.put("listing".to_string());
+    w.list_each(6);
+    w.listing();
     let steps = 8 + w.rng.below(12);
     for _ in 0..steps {
         let live = w.live();
@@ -336,8 +336,8 @@ fn probe(w: &mut Writer) {
             _ => create(w, false),
         };
     }
-    w.list_all(4);
-    w.put("listing".to_string());
+    w.list_each(4);
+    w.listing();
     w.put("history".to_string());
 }
 

@@ -1,7 +1,7 @@
 //! Volumes with many entries, up to an index without a free slot, in orders that make sorting and searching hard. Every
 //! second one has a fault, between entries that lie near each other in the index or far apart.
 
-use super::built::{slots_for, Builder};
+use super::built::{capacity, slots_for, Builder};
 use super::{least_reserved, text, volume_name, Known, Writer};
 use crate::bytes::put;
 use crate::edition::Edition;
@@ -34,6 +34,8 @@ enum Look {
     /// Short and of one length.
     #[default]
     Plain,
+    /// Directories that fill their slots, whose records are the longest.
+    Full,
     /// Of several slots, with a long common beginning.
     Long,
     /// Below the last of a chain of directories.
@@ -118,11 +120,14 @@ struct Names {
 }
 
 impl Names {
-    fn new(rng: &mut Xorshift, slots: u64) -> Self {
-        let look = rng.pick(&[Look::Plain, Look::Plain, Look::Long, Look::Deep, Look::Beside, Look::Beside]);
+    fn new(rng: &mut Xorshift, edition: Edition, slots: u64) -> Self {
+        let looks = [Look::Plain, Look::Plain, Look::Full, Look::Long, Look::Deep, Look::Beside, Look::Beside];
+        let look = rng.pick(&looks);
         let mut names = Names { look, beginning: b"n".to_vec(), ..Names::default() };
         match look {
             Look::Plain => {}
+            // The number and the zero take the rest.
+            Look::Full => names.beginning = vec![b'n'; capacity(edition, DIRECTORY, 1) - 6],
             Look::Long => names.begin_long(rng),
             Look::Deep => names.chain = chain(rng, slots),
             Look::Beside => names.chain = vec![b"a".to_vec()],
@@ -145,7 +150,8 @@ impl Names {
         self.serial += 1;
         let chained = self.chain.pop();
         let holds = chained.is_some() || self.look == Look::Beside;
-        let kind = if chained.is_some() { DIRECTORY } else { rng.pick(&[FILE, FILE, FILE, DIRECTORY]) };
+        let directory = chained.is_some() || self.look == Look::Full;
+        let kind = if directory { DIRECTORY } else { rng.pick(&[FILE, FILE, FILE, DIRECTORY]) };
         let path = chained.unwrap_or_else(|| self.path(rng));
         if holds && kind == DIRECTORY {
             self.directories.push(path.clone());
@@ -157,7 +163,7 @@ impl Names {
     fn path(&self, rng: &mut Xorshift) -> Vec<u8> {
         let number = format!("{:05}", self.serial).into_bytes();
         match self.look {
-            Look::Plain => [self.beginning.as_slice(), &number].concat(),
+            Look::Plain | Look::Full => [self.beginning.as_slice(), &number].concat(),
             Look::Long => [self.beginning.as_slice(), &number, rng.pick(&[b"".as_slice(), b"", b"n"])].concat(),
             Look::Deep => below(&self.deep_directory(rng), format!("{:x}", self.serial).as_bytes()),
             Look::Beside => self.beside(rng),
@@ -216,10 +222,25 @@ fn chain(rng: &mut Xorshift, slots: u64) -> Vec<Vec<u8>> {
 }
 
 /// How often, in a hundred, a slot goes to something else than a live entry.
+#[derive(Default)]
 struct Shares {
     unused: u64,
     unusable: u64,
     deleted: u64,
+}
+
+impl Shares {
+    /// At times none in the largest index, so that it has as many live entries as there can be.
+    fn new(rng: &mut Xorshift, slots: u64) -> Self {
+        if slots == MOST_SLOTS && rng.chance(60) {
+            return Shares::default();
+        }
+        Shares {
+            unused: rng.pick(&[0, 0, 0, 1, 10, 40]),
+            unusable: rng.pick(&[0, 1, 1, 6]),
+            deleted: rng.pick(&[0, 3, 3, 15, 30]),
+        }
+    }
 }
 
 /// The items of a volume in the order they come to mind: directories before what is in them.
@@ -236,11 +257,7 @@ struct Mix {
 
 impl Mix {
     fn new(rng: &mut Xorshift, edition: Edition, slots: u64, names: &mut Names) -> Self {
-        let shares = Shares {
-            unused: rng.pick(&[0, 0, 0, 1, 10, 40]),
-            unusable: rng.pick(&[0, 1, 1, 6]),
-            deleted: rng.pick(&[0, 3, 3, 15, 30]),
-        };
+        let shares = Shares::new(rng, slots);
         let mut mix = Mix { edition, items: Vec::new(), used: 0, slots, deleted: Vec::new(), chained: 0 };
         while mix.used < slots {
             mix.add(rng, names, &shares);
@@ -298,7 +315,7 @@ impl Mix {
     /// As they came, the other way round, the first ones last, or shuffled.
     fn arrange(mut self, rng: &mut Xorshift, look: Look) -> Vec<Item> {
         let way = match look {
-            Look::Plain => rng.pick(&[0, 1, 3, 3]),
+            Look::Plain | Look::Full => rng.pick(&[0, 1, 3, 3]),
             Look::Deep => rng.pick(&[0, 2, 3]),
             Look::Long | Look::Beside => 3,
         };
@@ -381,7 +398,7 @@ impl Crowd {
     /// A good volume, and its image.
     fn new(rng: &mut Xorshift, edition: Edition) -> (Self, Vec<u8>) {
         let slots = some_slots(rng);
-        let mut names = Names::new(rng, slots);
+        let mut names = Names::new(rng, edition, slots);
         let mut items = Mix::new(rng, edition, slots, &mut names).arrange(rng, names.look);
         let block = some_block(rng, slots);
         let reserved = least_reserved(block) + rng.below(3);
@@ -651,8 +668,10 @@ fn list_some(w: &mut Writer, crowd: &Crowd) {
         let room = w.rng.pick(&[285, 285, 285, 6]);
         w.put(format!("list {slot} {room}"));
     }
+    w.list_all();
+    w.list_all();
     if w.length() <= LISTED {
-        w.put("listing".to_string());
+        w.listing();
     }
 }
 

@@ -312,18 +312,19 @@ fn probe(w: &mut Writer, healthy: &Healthy) {
     let gone = w.rng.pick(&healthy.deleted).path;
     let serial = w.serial().to_string().into_bytes();
     for _ in 0..4 {
-        match w.rng.below(12) {
+        match w.rng.below(13) {
             0 => w.find(&path),
             1 | 2 => w.read(&path),
             3 => w.mkfile(&serial, 1),
             4 => w.mkdir(&path),
             5 => w.delete(&path),
             6 => w.reclaim(),
-            7 => w.put("listing".to_string()),
+            7 => w.listing(),
             8 => w.restore(&path),
             9 | 10 => w.restore(&gone),
+            11 => w.list_all(),
             _ => {
-                w.list_all(3);
+                w.list_each(3);
                 0
             }
         };

@@ -1,5 +1,6 @@
 //! Edge lengths of images and outputs.
 
+use super::lists::{record, SHORT};
 use super::{least_reserved, text, volume_name, Writer};
 use crate::script::hex;
 
@@ -37,19 +38,21 @@ pub fn scene(w: &mut Writer) {
     } else if refused == 0 {
         outputs(w, name.len() as u64, block);
     }
-    w.put("listing".to_string());
+    w.listing();
     w.put("history".to_string());
     if length < LARGE {
         cut(w, length);
     } else {
         w.put(format!("truncate {}", LARGE + 1));
         w.put("open 51".to_string());
+        w.list_all();
     }
 }
 
 /// Outputs of no bytes, one short, just enough and one more.
 fn outputs(w: &mut Writer, name: u64, block: u64) {
     around(w, "open", name);
+    w.list_all();
     let length = w.rng.pick(&[0, 1, block - 1, block]);
     if w.mkfile(b"f", length) == 0 {
         around(w, &format!("read {}", hex(b"f")), length);
@@ -64,11 +67,24 @@ fn outputs(w: &mut Writer, name: u64, block: u64) {
     if w.mkdir(&path) == 0 {
         around(w, "list 0", path.len() as u64);
         around(w, "list 2", path.len() as u64);
+        records(w);
     }
     w.put("read 66 17000".to_string());
     w.delete(&path);
     if w.rng.chance(50) {
         w.restore(&path);
+    }
+}
+
+/// Outputs about the first record or about all of them, or too short for any.
+fn records(w: &mut Writer) {
+    let records: Vec<u64> = w.live().iter().map(record).collect();
+    let needed = w.rng.pick(&[records.iter().take(1).sum(), records.iter().sum()]);
+    if w.rng.chance(65) {
+        return around(w, "listall 0", needed);
+    }
+    for room in SHORT {
+        w.put(format!("listall 0 {room}"));
     }
 }
 
@@ -101,13 +117,14 @@ pub fn cut_short(w: &mut Writer) {
     w.open();
     w.find(b"f");
     w.put("list 0 285".to_string());
+    w.list_all();
     w.read(b"f");
     w.mkfile(b"f", 1);
     w.mkdir(b"g");
     w.delete(b"f");
     w.restore(b"f");
     w.reclaim();
-    w.put("listing".to_string());
+    w.listing();
     let version = w.rng.pick(&[0x0F, 0x10, 0x1A, 0x1B]);
     w.format_as(version, 256, 2, b"");
 }

@@ -33,6 +33,7 @@ fn across(w: &mut Writer) {
         let name = volume_name(&mut w.rng);
         format_other(w, block, least_reserved(block), &name);
         w.open();
+        w.list_all();
         w.put("history".to_string());
     }
     steps(w, 6, block);
@@ -94,8 +95,8 @@ fn order_by_hand(w: &mut Writer) {
     w.poke_back(&builder.image);
     w.open();
     fill_in(w, chain);
-    w.list_all(12);
-    w.put("listing".to_string());
+    w.list_each(12);
+    w.listing();
 }
 
 /// Creates in the directories and outside them, and looks where the entries went.

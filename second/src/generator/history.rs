@@ -60,6 +60,9 @@ pub fn begin(w: &mut Writer, block: u64) {
     let reserved = if w.rng.chance(80) { least } else { least + w.rng.below(total - 1 - least) };
     let name = volume_name(&mut w.rng);
     w.format(block, reserved, &name);
+    if w.rng.chance(10) {
+        w.list_all();
+    }
 }
 
 /// So many steps of any mode.
@@ -102,7 +105,7 @@ fn plain(w: &mut Writer) {
         0..=4 => w.reclaim(),
         5 | 6 => w.open(),
         7 | 8 => list_somewhere(w),
-        _ => w.put("listing".to_string()),
+        _ => w.listing(),
     };
 }
 
@@ -255,6 +258,9 @@ fn again(w: &mut Writer) {
 }
 
 fn list_somewhere(w: &mut Writer) -> u8 {
+    if w.rng.chance(30) {
+        return w.list_all();
+    }
     let slot = if w.rng.chance(80) { w.rng.below(20) } else { u64::MAX - w.rng.below(2) };
     let room = w.rng.pick(&[0, 1, 29, 285]);
     w.put(format!("list {slot} {room}"))
@@ -286,7 +292,7 @@ fn odd(w: &mut Writer) {
 
 /// Looks at everything live, by each call that can, and asks for the check.
 pub fn closing(w: &mut Writer) {
-    w.list_all(12);
+    w.list_each(12);
     for known in w.live().iter().take(8) {
         w.find(&known.path);
         if !known.directory {
@@ -294,6 +300,6 @@ pub fn closing(w: &mut Writer) {
         }
     }
     w.open();
-    w.put("listing".to_string());
+    w.listing();
     w.put("history".to_string());
 }

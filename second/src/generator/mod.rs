@@ -8,6 +8,7 @@ mod damage;
 mod edges;
 mod editions;
 mod history;
+mod lists;
 mod names;
 mod restore;
 mod sums;
@@ -122,6 +123,9 @@ impl Writer {
     /// One scene of the family, in either edition.
     fn play(&mut self, family: &Family) {
         self.edition = if self.rng.chance(family.newer) { Edition::V1_10 } else { Edition::V1_0 };
+        if self.rng.chance(4) {
+            self.put("api".to_string());
+        }
         (family.scene)(self);
     }
 
@@ -322,17 +326,6 @@ impl Writer {
         let needed = self.live().iter().find(|known| known.path == path).map_or(9, |known| known.length);
         let room = self.room(needed.min(70_000));
         self.put(format!("read {} {room}", hex(path)))
-    }
-
-    /// Lists from slot to slot to the end, over at most `most` entries.
-    pub fn list_all(&mut self, most: usize) {
-        let mut from = 0;
-        for known in self.live().iter().take(most) {
-            let room = self.room(known.path.len() as u64);
-            self.put(format!("list {from} {room}"));
-            from = known.slot + 1;
-        }
-        self.put(format!("list {from} 285"));
     }
 }
 

@@ -20,8 +20,8 @@ pub fn scene(w: &mut Writer) {
             _ => near_known(w),
         }
     }
-    w.list_all(8);
-    w.put("listing".to_string());
+    w.list_each(8);
+    w.listing();
     w.put("history".to_string());
     let whole = w.image().to_vec();
     for _ in 0..6 {
@@ -144,11 +144,12 @@ fn stored(w: &mut Writer) {
         w.reseal(slot_at);
     }
     w.open();
-    match w.rng.below(6) {
+    match w.rng.below(7) {
         0 => w.find(&name),
-        1 => w.put("listing".to_string()),
+        1 => w.listing(),
         2 => w.mkdir(b"new"),
         3 | 4 => w.restore(&name),
+        5 => w.list_all(),
         _ => w.put("list 0 285".to_string()),
     };
 }

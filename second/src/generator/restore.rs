@@ -121,12 +121,12 @@ fn meanwhile(w: &mut Writer) {
     for _ in 0..w.rng.below(3) {
         match w.rng.below(6) {
             0..=2 => make_another(w),
-            3 => w.list_all(3),
+            3 => w.list_each(3),
             4 => {
                 w.open();
             }
             _ => {
-                w.put("listing".to_string());
+                w.listing();
             }
         }
     }
@@ -235,7 +235,7 @@ fn below(w: &mut Writer, path: &[u8]) {
     meanwhile(w);
     w.restore(path);
     w.find(&child);
-    w.list_all(4);
+    w.list_each(4);
     if w.rng.chance(30) {
         w.delete(path);
         w.restore(path);

@@ -379,9 +379,9 @@ fn probe(w: &mut Writer) {
             3 | 4 => w.delete(&path),
             5 | 6 => w.reclaim(),
             7 => w.restore(&path),
-            8 => w.put("listing".to_string()),
+            8 => w.listing(),
             9 => {
-                w.list_all(4);
+                w.list_each(4);
                 0
             }
             10 => w.mkdir(&path),
@@ -438,8 +438,8 @@ fn tiled(w: &mut Writer) {
     for _ in 0..3 {
         probe(w);
     }
-    w.list_all(6);
-    w.put("listing".to_string());
+    w.list_each(6);
+    w.listing();
     w.reclaim();
     probe(w);
 }
@@ -500,8 +500,8 @@ fn claimed(w: &mut Writer) {
         refused(w);
         probe(w);
     }
-    w.list_all(4);
-    w.put("listing".to_string());
+    w.list_each(4);
+    w.listing();
     w.reclaim();
 }
 

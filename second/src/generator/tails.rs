@@ -335,8 +335,8 @@ fn other_character(rng: &mut Xorshift, path: &[u8]) -> Vec<u8> {
 /// Looks at everything, then asks for one path after the other, each by a few calls in a row.
 fn probe(w: &mut Writer, wanted: &[Vec<u8>]) {
     w.open();
-    w.list_all(5);
-    w.put("listing".to_string());
+    w.list_each(5);
+    w.listing();
     let rounds = 14 + w.rng.below(8);
     for _ in 0..rounds {
         let path = some_path(w, wanted);
@@ -348,8 +348,8 @@ fn probe(w: &mut Writer, wanted: &[Vec<u8>]) {
             w.reclaim();
         }
     }
-    w.list_all(30);
-    w.put("listing".to_string());
+    w.list_each(30);
+    w.listing();
 }
 
 fn call(w: &mut Writer, path: &[u8]) {
@@ -365,7 +365,8 @@ fn call(w: &mut Writer, path: &[u8]) {
         16..=18 => w.restore(path),
         _ => {
             let slot = w.rng.below(80);
-            w.put(format!("list {slot} 300"))
+            w.put(format!("list {slot} 300"));
+            w.list_all()
         }
     };
 }

@@ -4,8 +4,8 @@
 use second::superblock::{self, CHECKSUM, DATA, INDEX};
 use second::Edition;
 use second::{
-    create_directory, create_file, delete, find, format, list, open, read, reclaim, restore, Found, Listed, Opened,
-    Read,
+    create_directory, create_file, delete, find, format, list, list_all, open, read, reclaim, restore, Found, Listed,
+    Opened, Read, Records,
 };
 
 /// A freshly formatted image of zeros.
@@ -60,7 +60,8 @@ pub fn opens(image: &[u8]) -> u8 {
 }
 
 /// The refusal numbers of open, find, list, read, both creates, delete, restore and reclaim, each called on
-/// the image as it is. Asserts that a refusal gives zeros and writes nothing anywhere.
+/// the image as it is. Asserts that a refusal gives zeros and writes nothing anywhere, and that list_all refuses the
+/// images that list refuses.
 pub fn all_calls(image: &[u8], path: &[u8]) -> [u8; 9] {
     let opened = lend(|output| {
         let answer = open(image, output);
@@ -72,6 +73,11 @@ pub fn all_calls(image: &[u8], path: &[u8]) -> [u8; 9] {
         let answer = list(image, 0, output);
         (answer.refusal, answer == Listed { refusal: answer.refusal, ..Listed::default() })
     });
+    let records = lend(|output| {
+        let answer = list_all(image, 0, output);
+        (answer.refusal, answer == Records { refusal: answer.refusal, ..Records::default() })
+    });
+    assert!(records == listed || (listed == 0 && records == 18));
     let got = lend(|output| {
         let answer = read(image, path, output);
         (answer.refusal, answer == Read { refusal: answer.refusal, length: 0 })

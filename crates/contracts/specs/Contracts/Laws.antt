@@ -4,14 +4,17 @@ use mathlib.Core.Path.{_≡_}
 use mathlib.Core.List.{List, []}
 use lib.ListN.{length}
 use borrow.Author.Tests.{le-leb, lt-leb}
-use Rattle.rules.specs.Lists.Laws.{pick-true, pick-false}
 use Rattle.rules.specs.Fields.{splice}
+use Rattle.rules.specs.Refusals.Laws.{need-true, need-false}
 use Rattle.rules.specs.Outcome.{done, VolumeNumbers, EntryNumbers, ListedNumbers}
-use Rattle.rules.specs.Listing.{listingOf}
+use Rattle.rules.specs.Outcome.Laws.{denied, conclude-refused, conclude-accepted}
+use Rattle.rules.specs.Records.{RecordsNumbers}
+use Rattle.rules.specs.Listing.{listingOf, textOf}
 use Rattle.contracts.specs.declared.Volume.{Volume}
 use Rattle.contracts.specs.declared.Entry.{Entry}
 use Rattle.contracts.specs.declared.Listed.{Listed}
-use Rattle.contracts.specs.Contracts.{volumeAnswer, volumeView, entryAnswer, entryView, listedAnswer, listedView, textAs, textOf}
+use Rattle.contracts.specs.declared.Records.{Records}
+use Rattle.contracts.specs.Contracts.{volumeAnswer, volumeView, entryAnswer, entryView, listedAnswer, listedView, recordsAnswer, recordsView}
 
 pub volume-outcome : (s out : List ℕ) (r : Volume) (a : VolumeNumbers) → r .refusal ≡ 0 → volumeAnswer r ≡ a → volumeView s out r ≡ done a s out
 unfolding done
@@ -25,10 +28,14 @@ pub listed-outcome : (s out : List ℕ) (r : Listed) (a : ListedNumbers) → r .
 unfolding done
 listed-outcome s out r a z e = rw (z, e)
 
-pub text-short : (s out : List ℕ) → length out < 131_072 → textOf s out ≡ textAs 0 out
-unfolding textOf
-text-short s out h = pick-false _ _ (lt-leb 131_072 (length out) h)
+pub records-outcome : (s out : List ℕ) (r : Records) (a : RecordsNumbers) → r .refusal ≡ 0 → recordsAnswer r ≡ a → recordsView s out r ≡ done a s out
+unfolding done
+records-outcome s out r a z e = rw (z, e)
 
-pub text-done : (s out : List ℕ) → 131_072 ≤ length out → textOf s out ≡ textAs (length (listingOf s)) (splice out 0 (listingOf s))
+pub text-short : (s out : List ℕ) → length out < 131_072 → textOf s out ≡ denied 0 s out 18
 unfolding textOf
-text-done s out h = pick-true _ _ (le-leb 131_072 (length out) h)
+text-short s out h = conclude-refused 0 s out 18 (need-false 18 _ (lt-leb 131_072 (length out) h))
+
+pub text-done : (s out : List ℕ) → 131_072 ≤ length out → textOf s out ≡ done (length (listingOf s)) s (splice out 0 (listingOf s))
+unfolding textOf
+text-done s out h = conclude-accepted 0 s out _ (need-true 18 _ (le-leb 131_072 (length out) h))

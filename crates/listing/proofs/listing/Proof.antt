@@ -6,7 +6,8 @@ use lib.ListN.{length}
 use Rattle.rules.specs.Listing.{listingOf, refusedLine}
 use Rattle.judging.specs.View.{refused-says, good-says}
 use Rattle.laws.proofs.Listing.Bound.{listing-fits}
-use Rattle.listing.specs.Lines.{wrote-as, wrote-counts}
+use Rattle.text.specs.Wrote.{wrote-as}
+use Rattle.listing.specs.Lines.{wrote-counts}
 use Rattle.listing.specs.Volume.{openedText, listing-long, listing-refused, listing-opened}
 use borrow.Author.Needs.{needs}
 use Rattle.listing.proofs.listing.Statement.{statement}

@@ -4,8 +4,8 @@ use denote.Ref.{now}
 use lib.ListN.{length, length-append}
 use Rattle.rules.specs.Listing.{countLine}
 use Rattle.index.specs.Steps.{entriesFrom}
-use Rattle.text.specs.Wrote.{wrote-both}
-use Rattle.listing.specs.Lines.{liveText, wrote-as}
+use Rattle.text.specs.Wrote.{wrote-both, wrote-as}
+use Rattle.listing.specs.Lines.{liveText}
 use Rattle.listing.specs.Volume.{countText, count-is}
 use borrow.Author.Needs.{needs}
 use Rattle.listing.proofs.put_entries.Statement.{statement}

@@ -7,7 +7,8 @@ use Rattle.slots.specs.View.{headView}
 use Rattle.index.specs.View.{SumsFrom}
 use Rattle.index.specs.Steps.{Walks, Step, entriesFrom, sums-step}
 use Rattle.index.specs.Turns.{told-end, told-found}
-use Rattle.listing.specs.Lines.{entryText, liveText, text-end, text-next, ToWrite, left-none, left-next}
+use Rattle.text.specs.Wrote.{ToWrite, left-none, left-next}
+use Rattle.listing.specs.Lines.{entryText, liveText, text-end, text-next}
 use borrow.Author.Needs.{needs}
 use Rattle.listing.proofs.put_lines.Statement.{statement}
 use Rattle.listing.proofs.put_lines.Tie as tie

@@ -1,7 +1,6 @@
 use mathlib.Core.Path.{sym, _∙_}
-use Rattle.rules.specs.Paths.{isLive}
+use Rattle.rules.specs.Paths.{isLive, liveFrom}
 use Rattle.slots.specs.View.{spotView}
-use Rattle.paths.specs.View.{liveFrom}
 use borrow.Author.Needs.{needs}
 use Rattle.paths.proofs.is_from.Statement.{statement}
 use Rattle.paths.proofs.is_from.Tie as tie

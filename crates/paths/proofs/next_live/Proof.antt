@@ -1,32 +1,29 @@
-use mathlib.Core.Path.{_≡_, refl, sym, ap, _∙_}
-use mathlib.Core.Option.{some}
+use mathlib.Core.Path.{_≡_, refl, sym, _∙_}
 use native.Mathlib.Omega.{arith}
 use denote.Ref.{now}
 use Rattle.rules.specs.Lists.{only}
-use Rattle.rules.specs.Lists.Laws.{first-chosen, first-unchosen}
-use Rattle.rules.specs.Paths.{nextLive}
+use Rattle.rules.specs.Paths.{liveFrom}
 use Rattle.slots.specs.View.{head-spot}
-use Rattle.index.specs.View.{SumsFrom}
-use Rattle.index.specs.Steps.{Walks, entriesFrom, Arrives, sums-arrives}
+use Rattle.index.specs.View.{SumsFrom, Behind, behind-itself, behind-on}
+use Rattle.index.specs.Steps.{Walks, entriesFrom, Arrives, sums-arrives, behind-arrives, arrives-before}
 use Rattle.index.specs.Turns.{stops-end, stops-at}
-use Rattle.paths.specs.View.{liveFrom, searched-none, searched-some, none-of, some-of}
+use Rattle.paths.specs.View.{hits-none, hits-read, no-hit-of, some-hit-of}
 use Rattle.paths.specs.Entries.{only-end, only-stop, only-next}
 use borrow.Author.Needs.{needs}
 use Rattle.paths.proofs.next_live.Statement.{statement}
 use Rattle.paths.proofs.next_live.Tie as tie
 
 abbrev Inv-loop : tie.InvT-loop
-Inv-loop img sums slot at₀ at = Walks img at × (only (liveFrom (slot .0)) (entriesFrom img at) ≡ only (liveFrom (slot .0)) (entriesFrom img at₀)) × (at .edition ≡ at₀ .edition) × SumsFrom img sums at
+Inv-loop img sums slot at₀ at = Walks img at × (only (liveFrom (slot .0)) (entriesFrom img at) ≡ only (liveFrom (slot .0)) (entriesFrom img at₀)) × Behind at₀ at × SumsFrom img sums at
 
 abbrev μ-loop : tie.MeasureT-loop
 μ-loop img sums slot at₀ at = at .left
 
 returns : tie.Need-returns Inv-loop μ-loop
-unfolding nextLive liveFrom
 returns c =
     let n = c .before .before in
     let l = n .before in
-    (searched-none _ _ (first-unchosen _ _ (sym (l .loop .inv .1) ∙ only-end _ _ (stops-end _ _ _ (n .next-spot .ensures) (c .enum-told .given .1)))), none-of _)
+    (hits-none _ _ _ (sym (l .loop .inv .1) ∙ only-end _ _ (stops-end _ _ _ (n .next-spot .ensures) (c .enum-told .given .1))), no-hit-of _)
 
 step : (c : tie.After-e Inv-loop μ-loop) → let l = c .before .before .before in
     Arrives (now (l .before .before .before .args .img)) (l .loop .at) (c .e .given .0 .0) (c .e .given .0 .1 .0)
@@ -36,7 +33,6 @@ head-at-requires : tie.Need-head-at-requires Inv-loop μ-loop
 head-at-requires c κs = let e = step (c .before .before .before) .spot in omega (arith, e .fits, e .low)
 
 returns-2 : tie.Need-returns-2 Inv-loop μ-loop
-unfolding nextLive liveFrom
 returns-2 c =
     let k = c .before in
     let h = k .before .before .before in
@@ -45,8 +41,8 @@ returns-2 c =
     let same = r .view ∙ sym (v .0) in
     let i = h .before .before .before .loop .inv in
     let met = only-stop _ _ _ _ (r .entries) (sym (k .before .is-from .ensures _) ∙ k .if1 .taken) in (
-      searched-some _ _ _ (first-chosen _ _ _ _ (sym (i .1) ∙ met) ∙ ap some same) (head-spot _ _ _ same (v .1 .0) (v .1 .1) (r .spot)),
-      some-of _ _ (v .1 .0 ∙ r .of ∙ i .2),
+      hits-read _ _ _ _ _ _ (sym (i .1) ∙ met) same (head-spot _ _ _ same (v .1 .0) (v .1 .1) (r .spot)) (r .walks) (arrives-before _ _ _ _ r),
+      some-hit-of _ _ _ (v .1 .0 ∙ r .of ∙ i .2 .edition) (behind-on _ _ _ (i .2) (behind-arrives _ _ _ _ r)),
     )
 
 loop-again : tie.Need-loop-again Inv-loop μ-loop
@@ -54,7 +50,7 @@ loop-again c =
     let h = c .before .before .before in
     let r = step h in
     let i = h .before .before .before .loop .inv in
-    (r .walks, only-next _ _ _ _ (r .entries) (sym (c .before .is-from .ensures _) ∙ c .if1 .left) ∙ i .1, r .edition ∙ i .2, sums-arrives _ _ _ (i .3) _ _ r)
+    (r .walks, only-next _ _ _ _ (r .entries) (sym (c .before .is-from .ensures _) ∙ c .if1 .left) ∙ i .1, behind-on _ _ _ (i .2) (behind-arrives _ _ _ _ r), sums-arrives _ _ _ (i .3) _ _ r)
 
 pub next-live-spec : {M : Type 1} → statement M
 next-live-spec =
@@ -62,7 +58,7 @@ next-live-spec =
     (tie.spec
     Inv-loop
     μ-loop
-    (λ c. let p = c .before .before .pre in (p .0, refl, refl, p .1))
+    (λ c. let p = c .before .before .pre in (p .0, refl, behind-itself _, p .1))
     (λ c κs. (c .loop .inv .0, c .loop .inv .3))
     (λ c. search needs)
     returns

@@ -6,7 +6,7 @@ use Rattle.rules.specs.Lists.{sum}
 use Rattle.rules.specs.Lists.Laws.{sum-parts, sum-map}
 use Rattle.rules.specs.Editions.{keepsDeleted}
 use Rattle.rules.specs.Index.Walk.{pick-both}
-use Rattle.rules.specs.History.{Call, format, openVolume, find, list, read, create, delete, restore, reclaim, History, keptAt, marked, markedIn, struckIn, revived, fed}
+use Rattle.rules.specs.History.{Call, format, openVolume, find, list, listAll, read, create, delete, restore, reclaim, History, keptAt, marked, markedIn, struckIn, revived, fed}
 
 abbrev pub Balanced : History → Type 0
 Balanced h = sum (λ k. k .blocks) (h .kept) + h .givenBack ≡ h .granted
@@ -18,6 +18,7 @@ balanced-fed h (format version bytesPerBlock reserved name stamp) b = omega arit
 balanced-fed h (openVolume out) b = b
 balanced-fed h (find path) b = b
 balanced-fed h (list slot out) b = b
+balanced-fed h (listAll slot out) b = b
 balanced-fed h (read path out) b = b
 balanced-fed h (create new path stamp) b = omega (arith, b)
 balanced-fed h (delete path stamp) b =

@@ -78,3 +78,13 @@ module _ (s : List ℕ) (v : Volume) (opens : judge s ≡ accepted v) where
     pub list-none : nextLive slot (entries v) ≡ none → listOf s slot out ≡ done noneListed s out
     unfolding listOf listed
     list-none e = volume-done noneListed s out _ v _ opens (ap (listed (v .geometry .edition) s out) e)
+
+    module _ (e : Entry) (found : nextLive slot (entries v) ≡ some e) where
+      pub list-short : length out < length (e .path) → listOf s slot out ≡ denied noneListed s out 18
+      unfolding listOf listed
+      list-short h = volume-denied noneListed s out _ v 18 opens (ap (listed (v .geometry .edition) s out) found ∙ need-false 18 _ (lt-leb (length (e .path)) (length out) h))
+
+      pub list-done : length (e .path) ≤ length out
+          → listOf s slot out ≡ done (record { found = numbersOf (v .geometry .edition) e; pathLength = length (e .path) }) s (splice out 0 (e .path))
+      unfolding listOf listed
+      list-done h = volume-done noneListed s out _ v _ opens (ap (listed (v .geometry .edition) s out) found ∙ need-true 18 _ (le-leb (length (e .path)) (length out) h))

@@ -14,7 +14,7 @@ returns : tie.Need-returns
 unfolding areasFit
 returns c = rw (sym (c .before .index-good .ensures) ∙ not-true _ (c .if1 .taken))
 
-sized : (c : tie.Else1) → indexGood (c .before .before .args .self .index) ≡ true
+sized : (c : tie.Else1) → indexGood (c .before .before .args .self .«index_bytes») ≡ true
 sized c = sym (c .before .index-good .ensures) ∙ not-false _ (c .if1 .left)
 
 returns-2 : tie.Need-returns-2

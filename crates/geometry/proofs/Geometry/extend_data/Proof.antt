@@ -15,13 +15,13 @@ blocks-past-requires c κs = search needs
 returns : tie.Need-returns
 unfolding extendData withData
 returns c = let a = c .before .before .before .before .args in
-    let h : a .self .«data» ≤ a .end .0 - a .self .reserved = omega arith in
+    let h : a .self .«data_blocks» ≤ a .end .0 - a .self .reserved = omega arith in
     rw (max-eq-right h) (cc)
 
 returns-2 : tie.Need-returns-2
 unfolding extendData withData
 returns-2 c = let a = c .before .before .before .before .args in
-    let h : a .end .0 - a .self .reserved ≤ a .self .«data» = omega arith in
+    let h : a .end .0 - a .self .reserved ≤ a .self .«data_blocks» = omega arith in
     rw (max-eq-left h)
 
 pub extend-data-spec : {M : Type 1} → statement M

@@ -20,7 +20,7 @@ unfolding geometryGood
 returns-2 c = rw (le-leb _ _ (c .before .before .if1 .left), lt-leb _ _ (c .if2 .taken))
 
 -- the tests passed so far, at each place
-field-good : (c : tie.Else2) → let g = c .before .before .before .before .args .self in (leb 1 (g .field) && leb (g .field) 5) ≡ true
+field-good : (c : tie.Else2) → let g = c .before .before .before .before .args .self in (leb 1 (g .«block_field») && leb (g .«block_field») 5) ≡ true
 field-good c = rw (le-leb _ _ (c .before .before .if1 .left), le-leb _ _ (c .if2 .left))
 
 block-length-requires : tie.Need-block-length-requires
@@ -40,7 +40,7 @@ returns-3 c =
 
 total-good : (c : tie.Else3) → let l = c .before .before .before in
     let a = l .before .before .before .before .before .args in
-    (leb 1 (a .self .field) && leb (a .self .field) 5 && eqb (a .self .total * blockLength (geometryView (a .self))) (a .n)) ≡ true
+    (leb 1 (a .self .«block_field») && leb (a .self .«block_field») 5 && eqb (a .self .total * blockLength (geometryView (a .self))) (a .n)) ≡ true
 total-good c =
     let l = c .before .before .before in
     rw (field-good (l .before), ← l .block-length .ensures .0) (sym (c .before .is-product .ensures) ∙ not-false _ (c .if3 .left))

@@ -1,0 +1,99 @@
+-- Entries stand in slot order: what list finds one after the other are the live entries from a slot on.
+use Prim.Native.Nat.{ℕ, zero, suc, _+_, _-_, _*_, _≤_, _<_}
+use mathlib.Core.Path.{_≡_, refl, subst, _∙_}
+use mathlib.Core.Bool.{Bool, true, false}
+use mathlib.Core.List.{List, [], _∷_}
+use native.Mathlib.Omega.{arith}
+use lib.ListN.{drop}
+use lib.Dec.{leb}
+use borrow.Author.Tests.{le-leb, lt-leb, leb-true}
+use Rattle.rules.specs.Lists.{only, keepIf}
+use Rattle.rules.specs.Lists.Laws.{and-true, and-right, only-no}
+use Rattle.rules.specs.Editions.{Edition}
+use Rattle.rules.specs.SuperBlock.{Geometry}
+use Rattle.rules.specs.Index.{Item, Entry, unused, stale, entry, fault, entryAt, unusableAt, itemAt, followed, walk, itemsOf, entriesOf, slotBytes}
+use Rattle.rules.specs.Index.Walk.{walkAll, slotsOf, slots-pos}
+use Rattle.rules.specs.Paths.{isLive, liveFrom}
+use Rattle.laws.proofs.Lists.Parts.{cons-head, cons-tail, nil-cons}
+use Rattle.laws.proofs.Index.Entries.{item-cases}
+
+-- the first slots rise, from k on
+abbrev pub Rising : ℕ → List Entry → Type 0
+Rising k [] = Unit {0}
+Rising k (e ∷ es) = (k ≤ e .slot) × Rising (e .slot + 1) es
+
+rising-from : (k m : ℕ) (es : List Entry) → m ≤ k → Rising k es → Rising m es
+rising-from k m [] h r = tt
+rising-from k m (e ∷ es) h r = (omega (arith, r .0), r .1)
+
+-- ---- of a walk
+module _ (ed : Edition) where
+  abbrev AtSlot : ℕ → Item → Type 0
+  AtSlot k (unused j) = Unit {0}
+  AtSlot k (stale j n) = Unit {0}
+  AtSlot k (entry e) = e .slot ≡ k
+  AtSlot k (fault j) = Unit {0}
+
+  at-slot : (left k : ℕ) (a : List ℕ) → AtSlot k (itemAt ed left k a)
+  unfolding entryAt unusableAt
+  at-slot left k a = item-cases ed left k a (AtSlot k) (λ e r. rw (r .made)) (λ e u. rw (u .made)) tt tt tt
+
+  rising-followed : (k : ℕ) (i : Item) (rest : ℕ → List Item) → AtSlot k i → 1 ≤ slotsOf i → ((n : ℕ) → Rising (k + n) (entriesOf (rest n))) → Rising k (entriesOf (followed i rest))
+  unfolding followed entriesOf slotsOf
+  rising-followed k (unused j) rest h p r = rising-from (k + 1) k (entriesOf (rest 1)) (omega arith) (r 1)
+  rising-followed k (stale j n) rest h p r = rising-from (k + n) k (entriesOf (rest n)) (omega arith) (r n)
+  rising-followed k (entry e) rest h p r = (omega (arith, h), rising-from (k + e .slots) (e .slot + 1) (entriesOf (rest (e .slots))) (omega (arith, h, p)) (r (e .slots)))
+  rising-followed k (fault j) rest h p r = tt
+
+  rising-walk : (steps left k : ℕ) (a : List ℕ) → Rising k (entriesOf (walk ed steps left k a))
+  unfolding walk entriesOf
+  rising-walk zero left k a = tt
+  rising-walk (suc steps) zero k a = tt
+  rising-walk (suc steps) (suc left) k a =
+      rising-followed k (itemAt ed (suc left) k a) _ (at-slot (suc left) k a) (slots-pos ed (suc left) k a)
+      (λ n. rising-walk steps (suc left - n) (k + n) (drop (slotBytes * n) a))
+
+pub entries-rise : (s : List ℕ) (g : Geometry) → Rising 1 (entriesOf (itemsOf s g))
+unfolding itemsOf walkAll
+entries-rise s g = rising-walk (g .edition) _ _ 1 _
+
+-- ---- the live ones from a slot on
+from-same : (j m : ℕ) (e : Entry) → j ≤ e .slot → m ≤ e .slot → liveFrom j e ≡ liveFrom m e
+unfolding liveFrom
+from-same j m e h k = rw (le-leb j (e .slot) h, le-leb m (e .slot) k)
+
+not-from : (j : ℕ) (e : Entry) → e .slot < j → liveFrom j e ≡ false
+unfolding liveFrom
+not-from j e h = and-right (isLive e) (leb j (e .slot)) (lt-leb j (e .slot) h)
+
+from-low : (j : ℕ) (e : Entry) → liveFrom j e ≡ true → j ≤ e .slot
+unfolding liveFrom
+from-low j e h = leb-true j (e .slot) (and-true (isLive e) (leb j (e .slot)) h .1)
+
+live-same : (j m : ℕ) (es : List Entry) → m ≤ j → Rising j es → only (liveFrom j) es ≡ only (liveFrom m) es
+unfolding only
+live-same j m [] h r = refl
+live-same j m (e ∷ es) h r =
+    rw (from-same j m e (r .0) (omega (arith, r .0)), live-same j m es h (rising-from (e .slot + 1) j es (omega (arith, r .0)) (r .1)))
+
+-- the next is found from the slot behind the one before it
+pub live-next : (k m : ℕ) (es : List Entry) (e : Entry) (rest : List Entry) → Rising k es → only (liveFrom m) es ≡ e ∷ rest
+    → (only (liveFrom (e .slot + 1)) es ≡ rest) × (k ≤ e .slot)
+unfolding only keepIf
+live-next k m [] e rest r h = nil-cons h
+live-next k m (x ∷ xs) e rest r h = by (liveFrom m x) refl (λ f. live-next (x .slot + 1) m xs e rest (r .1) f) h
+  where
+    here : liveFrom m x ≡ true → (only (liveFrom (x .slot + 1)) (x ∷ xs) ≡ only (liveFrom m) xs) × (k ≤ x .slot)
+    here t =
+        let low = from-low m x t in
+        (only-no (liveFrom (x .slot + 1)) x xs (not-from (x .slot + 1) x (omega arith)) ∙ live-same (x .slot + 1) m xs (omega (arith, low)) (r .1), r .0)
+
+    by : (t : Bool) → liveFrom m x ≡ t → (only (liveFrom m) xs ≡ e ∷ rest → (only (liveFrom (e .slot + 1)) xs ≡ rest) × (x .slot + 1 ≤ e .slot))
+        → keepIf t x (only (liveFrom m) xs) ≡ e ∷ rest → (only (liveFrom (e .slot + 1)) (x ∷ xs) ≡ rest) × (k ≤ e .slot)
+    by true t later f =
+        let q : x ≡ e = cons-head f in
+        let p = here t in
+        (subst (λ (y : Entry). only (liveFrom (y .slot + 1)) (x ∷ xs) ≡ rest) q (p .0 ∙ cons-tail f), subst (λ (y : Entry). k ≤ y .slot) q (p .1))
+    by false t later f =
+        let p = later f in
+        (only-no (liveFrom (e .slot + 1)) x xs (not-from (e .slot + 1) x (omega (arith, p .1))) ∙ p .0, omega (arith, p .1, r .0))
