@@ -19,5 +19,6 @@ int run_mkdir(const struct arguments *arguments);
 int run_rm(const struct arguments *arguments);
 int run_restore(const struct arguments *arguments);
 int run_reclaim(const struct arguments *arguments);
+int run_report(const struct arguments *arguments);
 
 #endif

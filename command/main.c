@@ -18,6 +18,9 @@
     (OPTION(OPTION_SIZE) | OPTION(OPTION_EDITION) | OPTION(OPTION_BLOCK_LENGTH) | OPTION(OPTION_RESERVED) | OPTION(OPTION_NAME) \
      | OPTION(OPTION_FORCE) | STAMP)
 #define LS_OPTIONS (OPTION(OPTION_LONG) | OPTION(OPTION_ONE))
+#define REPORT_LIMITS \
+    "It uses the first 1,000 names, of at most 255 bytes each, and images of at most 65,536 bytes:\n" \
+    "a longer name is unread, a longer image is refused with 1.\n"
 
 static const struct command {
     const char *name;
@@ -27,17 +30,19 @@ static const struct command {
     bool changes;     /* the first of them, its IMAGE */
     unsigned options;
     int (*run)(const struct arguments *arguments);
+    const char *limits; /* lines that its own help alone has */
 } commands[] = {
-    {"format", "IMAGE", "make an empty volume", 1, 1, true, FORMAT_OPTIONS, run_format},
-    {"info", "IMAGE", "print a volume's numbers", 1, 1, false, 0, run_info},
-    {"ls", "IMAGE [PATH]", "list a volume, or what is at a path and below it", 1, 2, false, LS_OPTIONS, run_ls},
-    {"cat", "IMAGE PATH...", "print the bytes of files", 2, INT_MAX, false, 0, run_cat},
-    {"put", "IMAGE FILE... PATH", "put files into a directory, or one under a path of its own", 3, INT_MAX, true, STAMP, run_put},
-    {"mkdir", "IMAGE PATH...", "make directories", 2, INT_MAX, true, STAMP, run_mkdir},
-    {"rm", "IMAGE PATH...", "delete files and empty directories", 2, INT_MAX, true, STAMP, run_rm},
-    {"restore", "IMAGE PATH...", "bring deleted entries back (edition 1.0)", 2, INT_MAX, true, STAMP, run_restore},
-    {"reclaim", "IMAGE", "free what deleted entries hold", 1, 1, true, STAMP, run_reclaim},
-    {"check", "IMAGE...", "say whether volumes are good, or which rule they break", 1, INT_MAX, false, 0, run_check},
+    {"format", "IMAGE", "make an empty volume", 1, 1, true, FORMAT_OPTIONS, run_format, ""},
+    {"info", "IMAGE", "print a volume's numbers", 1, 1, false, 0, run_info, ""},
+    {"ls", "IMAGE [PATH]", "list a volume, or what is at a path and below it", 1, 2, false, LS_OPTIONS, run_ls, ""},
+    {"cat", "IMAGE PATH...", "print the bytes of files", 2, INT_MAX, false, 0, run_cat, ""},
+    {"put", "IMAGE FILE... PATH", "put files into a directory, or one under a path of its own", 3, INT_MAX, true, STAMP, run_put, ""},
+    {"mkdir", "IMAGE PATH...", "make directories", 2, INT_MAX, true, STAMP, run_mkdir, ""},
+    {"rm", "IMAGE PATH...", "delete files and empty directories", 2, INT_MAX, true, STAMP, run_rm, ""},
+    {"restore", "IMAGE PATH...", "bring deleted entries back (edition 1.0)", 2, INT_MAX, true, STAMP, run_restore, ""},
+    {"reclaim", "IMAGE", "free what deleted entries hold", 1, 1, true, STAMP, run_reclaim, ""},
+    {"check", "IMAGE...", "say whether volumes are good, or which rule they break", 1, INT_MAX, false, 0, run_check, ""},
+    {"report", "FILE...", "add up how the images of files are filled", 1, INT_MAX, false, 0, run_report, REPORT_LIMITS},
 };
 
 #define COMMANDS (sizeof commands / sizeof *commands)
@@ -60,7 +65,7 @@ static int close_output(int status) {
 static int print_command_help(const struct command *command) {
     printf("usage: sfs %s ", command->name);
     print_forms(command->options);
-    printf("%s\n%s: %s\n", command->operands, command->name, command->purpose);
+    printf("%s\n%s: %s\n%s", command->operands, command->name, command->purpose, command->limits);
     print_options(command->options | OPTION(OPTION_HELP));
     return close_output(0);
 }

@@ -4,9 +4,9 @@
  * A volume is an image of 512 to 16,777,216 bytes that the caller lends for each call. Nothing is kept between calls, so
  * calls on different images may run at the same time; calls on one image may not, if one of them writes.
  *
- * Every call on an image takes any image and any arguments and, format and listing apart, judges the image before anything
- * else. Its refusal number is 0 on success. After a refusal every other number of the answer is 0, and no byte of the image
- * or of a lent output has changed.
+ * Every call on an image takes any image and any arguments and, format, listing and report apart, judges the image before
+ * anything else. Its refusal number is 0 on success. After a refusal every other number of the answer is 0, and no byte of the
+ * image or of a lent output has changed; only sfs_report_add counts the refusal of an image in the report.
  *
  * The magic decides a volume's edition, and all calls serve both. In 1.10 a delete frees slots and blocks at once, so that
  * nothing can be restored; and every accepted call that writes, format apart, first rewrites deleted runs and stray slots,
@@ -45,6 +45,9 @@ extern "C" {
 #define SFS_LISTING_IMAGE_MAX 65536u
 #define SFS_LISTING_ROOM 131072u  /* enough for the listing of any image */
 #define SFS_RECORDS_ROOM 491520u  /* enough for the records of any image */
+#define SFS_REPORT_IMAGE_MAX 65536u
+#define SFS_REPORT_NUMBERS 27u    /* of a report */
+#define SFS_REPORT_ROOM 1024u     /* enough for the text of any report */
 #define SFS_STACK_MAX 81920u      /* bytes of stack that a call takes at most; none takes any heap */
 
 /* Editions, by the version that a format gives. */
@@ -55,7 +58,7 @@ extern "C" {
 #define SFS_DIRECTORY 0x11u
 #define SFS_FILE 0x12u
 
-/* Refusal numbers. The lowest that applies is given. */
+/* Refusal numbers. The lowest that applies is given; of sfs_report_add 18 comes first. */
 enum sfs_refusal {
     SFS_OK = 0,
     SFS_IMAGE_LENGTH = 1,      /* the image is too short or too long */
@@ -75,7 +78,7 @@ enum sfs_refusal {
     SFS_NO_SLOTS = 15,         /* no slots that the entry may take, and the index cannot grow */
     SFS_NO_BLOCKS = 16,        /* no free run of blocks is long enough */
     SFS_NOT_A_FILE = 17,       /* a file was wanted */
-    SFS_OUTPUT_TOO_SHORT = 18, /* the lent output is too short */
+    SFS_OUTPUT_TOO_SHORT = 18, /* the lent output, or report, is too short */
     SFS_AMBIGUOUS = 19         /* two or more deleted entries have the path */
 };
 
@@ -144,6 +147,21 @@ enum sfs_record {
     SFS_RECORD_STAMP = 40,
     SFS_RECORD_PATH_LENGTH = 48,
     SFS_RECORD_PATH = 56
+};
+
+/*
+ * Where the numbers of a report are. Each of the first six has three sums: at it the slots, then the blocks, then the bytes.
+ * At SFS_REPORT_UNREAD is a count of files that could not be read, which the caller keeps; behind it, at SFS_REPORT_UNREAD
+ * + n, how many images were refused with n, 1 to 8.
+ */
+enum sfs_report {
+    SFS_REPORT_FILE = 0,
+    SFS_REPORT_DELETED_FILE = 3,
+    SFS_REPORT_DIRECTORY = 6,
+    SFS_REPORT_DELETED_DIRECTORY = 9,
+    SFS_REPORT_UNUSABLE = 12,
+    SFS_REPORT_UNUSED = 15,
+    SFS_REPORT_UNREAD = 18
 };
 
 /* The number of the library's interface: SFS_API of the header that belongs to it. */
@@ -215,6 +233,24 @@ uint32_t sfs_reclaim(uint8_t *image, size_t image_len, int64_t stamp);
  * this call. Refusal: 18 where out has less than SFS_LISTING_ROOM bytes.
  */
 struct sfs_content sfs_listing(const uint8_t *image, size_t image_len, uint8_t *out, size_t out_len);
+
+/*
+ * Counts an image in a report, SFS_REPORT_NUMBERS numbers of the caller's that are all 0 at first. Of an image that opens it
+ * adds, for each kind, the slots (continuing ones too), the blocks of regions and the bytes of files; the answer is 0. Marker
+ * and volume identifier are not counted, and in edition 1.10 deleted runs and stray slots are unused ones. Of an image that does
+ * not open it adds one to the count of its refusal, 1 to 8, which is also the answer; more than SFS_REPORT_IMAGE_MAX bytes are
+ * 1. Numbers behind the first SFS_REPORT_NUMBERS are not touched. Sums and counts are those of uint64_t; from zeros none can
+ * wrap within 1,000 images. 18, before any other: the report has fewer numbers, and nothing is counted. So an answer of 1 to 8
+ * is no failure of this call.
+ */
+uint32_t sfs_report_add(const uint8_t *image, size_t image_len, uint64_t *report, size_t report_len);
+
+/*
+ * Puts the text of a report at the start of out and gives its length: a line for each kind with its three sums, a line with
+ * the refusals that occurred and how often, and a line with the count of files that could not be read. Refusal: 18 where the
+ * report has less than SFS_REPORT_NUMBERS numbers or out less than SFS_REPORT_ROOM bytes.
+ */
+struct sfs_content sfs_report_text(const uint64_t *report, size_t report_len, uint8_t *out, size_t out_len);
 
 #ifdef __cplusplus
 }

@@ -10,12 +10,13 @@
 #include "../include/sfs.h"
 
 #define IMAGE (4u << 20)
+#define SMALL SFS_REPORT_IMAGE_MAX
 #define STACK (1u << 20)
 #define PAINT 0xA5
 #define ENTRIES 4094u
 /* What a thread takes of its stack that does nothing. */
 static size_t idle;
-static uint8_t image[IMAGE], full[IMAGE], less[IMAGE], out[512];
+static uint8_t image[IMAGE], full[IMAGE], less[IMAGE], small[SMALL], out[512];
 static const uint8_t last[] = "entry 0000", gone[] = "gone";
 static uint32_t edition;
 
@@ -41,6 +42,18 @@ static uint32_t list_all_it(void) {
 static uint32_t listing_it(void) {
     static uint8_t text[SFS_LISTING_ROOM];
     return sfs_listing(image, SFS_LISTING_IMAGE_MAX, text, sizeof text).refusal;
+}
+/* A report takes no image of IMAGE bytes, so that it is given a full one of its own. */
+static uint32_t report_add_it(void) {
+    static uint64_t report[SFS_REPORT_NUMBERS];
+    return sfs_report_add(small, SMALL, report, SFS_REPORT_NUMBERS);
+}
+/* With the longest text. */
+static uint32_t report_text_it(void) {
+    static uint64_t report[SFS_REPORT_NUMBERS];
+    static uint8_t text[SFS_REPORT_ROOM];
+    memset(report, 0xFF, sizeof report);
+    return sfs_report_text(report, SFS_REPORT_NUMBERS, text, sizeof text).refusal;
 }
 
 static void *work(void *call) {
@@ -88,6 +101,18 @@ static int fill(uint8_t *volume, unsigned entries) {
     return drop(volume);
 }
 
+/* The same in SMALL bytes, until there is no room. Of eight files one has a byte, so that there are many regions and many entries. */
+static int fill_small(void) {
+    uint8_t name[16];
+    uint32_t refusal = sfs_format(small, SMALL, edition, 256, 2, last, 5, 1);
+    unsigned place = 0;
+    for (; refusal == SFS_OK; place++) {
+        snprintf((char *)name, sizeof name, "entry %04u", place * 1597u % 4093u);
+        refusal = sfs_create_file(small, SMALL, name, 10, name, place % 8 == 0, 1);
+    }
+    return place < 600 || (refusal != SFS_NO_SLOTS && refusal != SFS_NO_BLOCKS);
+}
+
 /* All calls on volumes of the edition: how many failed. */
 static unsigned measured(const char *name, unsigned *count) {
     static const struct { const char *name; uint32_t (*call)(void); const uint8_t *volume; } calls[] = {
@@ -95,10 +120,11 @@ static unsigned measured(const char *name, unsigned *count) {
         {"read", read_it, full},
         {"create_file", create_it, less}, {"create_directory", make_it, less}, {"delete", delete_it, full},
         {"restore", restore_it, full}, {"reclaim", reclaim_it, full}, {"format", format_it, full}, {"listing", listing_it, full},
+        {"report_add", report_add_it, full}, {"report_text", report_text_it, full},
     };
     uint32_t refusal;
     unsigned failed = 0;
-    if (fill(full, ENTRIES) || fill(less, ENTRIES - 1)) {
+    if (fill(full, ENTRIES) || fill(less, ENTRIES - 1) || fill_small()) {
         fprintf(stderr, "the volumes were not made\n");
         exit(2);
     }

@@ -99,6 +99,16 @@ NUMBER(SFS_SLOT_BYTES, 64);
 NUMBER(SFS_INDEX_MAX, 262144);
 NUMBER(SFS_LISTING_IMAGE_MAX, 65536);
 NUMBER(SFS_LISTING_ROOM, 131072);
+NUMBER(SFS_REPORT_IMAGE_MAX, 65536);
+NUMBER(SFS_REPORT_NUMBERS, 27);
+NUMBER(SFS_REPORT_ROOM, 1024);
+NUMBER(SFS_REPORT_FILE, 0);
+NUMBER(SFS_REPORT_DELETED_FILE, 3);
+NUMBER(SFS_REPORT_DIRECTORY, 6);
+NUMBER(SFS_REPORT_DELETED_DIRECTORY, 9);
+NUMBER(SFS_REPORT_UNUSABLE, 12);
+NUMBER(SFS_REPORT_UNUSED, 15);
+NUMBER(SFS_REPORT_UNREAD, 18);
 
 static int passed, failed;
 
@@ -185,6 +195,8 @@ static void empty_slices(void) {
     CHECK(sfs_restore(NULL, 0, B("a"), 0) == SFS_IMAGE_LENGTH);
     CHECK(sfs_restore(NULL, 0, NULL, 0, 0) == SFS_IMAGE_LENGTH);
     CHECK(sfs_reclaim(NULL, 0, 0) == SFS_IMAGE_LENGTH);
+    CHECK(sfs_report_add(NULL, 0, NULL, 0) == SFS_OUTPUT_TOO_SHORT);
+    CHECK(zero_content(sfs_report_text(NULL, 0, NULL, 0), SFS_OUTPUT_TOO_SHORT));
     CHECK(memcmp(out, "\1\2\3\4", 4) == 0);
 }
 
@@ -924,6 +936,247 @@ static void newer_name_lengths(void) {
     free(image);
 }
 
+/* A report of zeros in memory of exactly its size. */
+static uint64_t *new_report(size_t numbers) {
+    uint64_t *report = calloc(numbers, sizeof *report);
+    if (!report)
+        abort();
+    return report;
+}
+
+static int report_is(const uint64_t *report, const uint64_t *wanted) {
+    return memcmp(report, wanted, SFS_REPORT_NUMBERS * sizeof *report) == 0;
+}
+
+/* The image opens, and its report is the wanted one. */
+static int sums_are(const uint8_t *image, size_t n, const uint64_t *wanted) {
+    uint64_t *report = new_report(SFS_REPORT_NUMBERS);
+    int same = sfs_report_add(image, n, report, SFS_REPORT_NUMBERS) == SFS_OK && report_is(report, wanted);
+    free(report);
+    return same;
+}
+
+/* Slots, blocks and bytes of live file, deleted file, directory, deleted directory, unusable and unused, in this order. */
+static void report_sums(void) {
+    uint8_t *image = session(), *slot = image + 65536 - 256 + 64;
+    CHECK(sums_are(image, 65536, (uint64_t[27]){1, 1, 3, 0, 0, 0, 1, 0, 0}));
+    slot[26] = 0; /* a region without a byte holds its block */
+    CHECK(sums_are(image, 65536, (uint64_t[27]){1, 1, 0, 0, 0, 0, 1, 0, 0}));
+    slot[26] = 3;
+    CHECK(sfs_delete(image, 65536, B("session/verified"), 1) == SFS_OK);
+    CHECK(sums_are(image, 65536, (uint64_t[27]){0, 0, 0, 1, 1, 3, 1, 0, 0}));
+    CHECK(sfs_delete(image, 65536, B("session"), 1) == SFS_OK);
+    CHECK(sums_are(image, 65536, (uint64_t[27]){0, 0, 0, 1, 1, 3, 0, 0, 0, 1, 0, 0}));
+    CHECK(sfs_reclaim(image, 65536, 1) == SFS_OK);
+    CHECK(sums_are(image, 65536, (uint64_t[27]){[15] = 2}));
+    CHECK(sfs_format(image, 65536, SFS_VERSION_1_0, 512, 2, NULL, 0, 0) == SFS_OK);
+    CHECK(sums_are(image, 65536, (uint64_t[27]){0}));
+    free(image);
+}
+
+/* Files of 5 and 2 blocks, then an unusable entry in the place of the second; ends are meant as the edition means them. */
+static void report_editions(void) {
+    static const uint8_t older[64] = {0x18, [10] = 8, [18] = 10}, newer[64] = {0x18, 0xD7, [10] = 8, [18] = 9};
+    uint8_t *image = stamped(SFS_VERSION_1_0), *slot = image + 65536 - 320 + 64;
+    CHECK(sums_are(image, 65536, (uint64_t[27]){2, 7, 3100, 0, 0, 0, 1, 0, 0}));
+    CHECK(sfs_delete(image, 65536, B("d/the-second"), DELETED) == SFS_OK);
+    CHECK(sums_are(image, 65536, (uint64_t[27]){1, 5, 2100, 1, 2, 1000, 1, 0, 0}));
+    memcpy(slot, older, 64);
+    CHECK(sums_are(image, 65536, (uint64_t[27]){1, 5, 2100, 0, 0, 0, 1, 0, 0, 0, 0, 0, 1, 2, 0}));
+    add(image + 0x1AF, 10); /* a later version of 1.0, which may only be read */
+    add(image + 0x1BD, -10);
+    CHECK(sums_are(image, 65536, (uint64_t[27]){1, 5, 2100, 0, 0, 0, 1, 0, 0, 0, 0, 0, 1, 2, 0}));
+    free(image);
+    image = stamped(SFS_VERSION_1_10);
+    slot = image + 65536 - 320 + 64;
+    CHECK(sums_are(image, 65536, (uint64_t[27]){2, 7, 3100, 0, 0, 0, 1, 0, 0}));
+    CHECK(sfs_delete(image, 65536, B("d/the-second"), DELETED) == SFS_OK);
+    CHECK(sums_are(image, 65536, (uint64_t[27]){1, 5, 2100, 0, 0, 0, 1, 0, 0, [15] = 1}));
+    memset(slot, 'x', 64); /* a stray slot is left over */
+    CHECK(sums_are(image, 65536, (uint64_t[27]){1, 5, 2100, 0, 0, 0, 1, 0, 0, [15] = 1}));
+    memcpy(slot, newer, 64);
+    CHECK(sums_are(image, 65536, (uint64_t[27]){1, 5, 2100, 0, 0, 0, 1, 0, 0, 0, 0, 0, 1, 2, 0}));
+    free(image);
+}
+
+/* The slots that continue a name count: of 100 bytes a file's takes three, a directory's two. A deleted run of 1.10 is left over. */
+static void report_long_names(uint32_t edition) {
+    uint8_t *image = new_image(65536), path[100], *run = image + 65536 - 64 * 7 + 64;
+    memset(path, 'd', sizeof path);
+    CHECK(sfs_format(image, 65536, edition, 512, 2, NULL, 0, 0) == SFS_OK);
+    CHECK(sfs_create_directory(image, 65536, path, 100, 0) == SFS_OK);
+    path[0] = 'f';
+    CHECK(sfs_create_file(image, 65536, path, 100, NULL, 0, 0) == SFS_OK);
+    CHECK(sums_are(image, 65536, (uint64_t[27]){3, 0, 0, 0, 0, 0, 2, 0, 0}));
+    CHECK(run[0] == SFS_FILE);
+    run[0] = 0x1A;
+    if (edition == SFS_VERSION_1_10)
+        add(run + 1, -8);
+    CHECK(sums_are(image, 65536, edition == SFS_VERSION_1_0 ? (uint64_t[27]){[3] = 3, [6] = 2} : (uint64_t[27]){[6] = 2, [15] = 3}));
+    free(image);
+}
+
+/* Adds a copy of TERM7 with other bytes at a place: the refusal is answered and counted, and nothing else is. */
+static void refused_report(uint64_t *report, uint32_t refusal, size_t place, uint8_t byte) {
+    uint8_t *image = session();
+    uint64_t wanted[SFS_REPORT_NUMBERS];
+    memcpy(wanted, report, sizeof wanted);
+    wanted[SFS_REPORT_UNREAD + refusal]++;
+    image[place] = byte;
+    CHECK(sfs_report_add(image, 65536, report, SFS_REPORT_NUMBERS) == refusal);
+    CHECK(report_is(report, wanted));
+    free(image);
+}
+
+static void reports_refused(void) {
+    uint64_t *report = new_report(SFS_REPORT_NUMBERS);
+    refused_report(report, SFS_MAGIC, 0x1AC, 0);
+    refused_report(report, SFS_VERSION, 0x1AF, 0x0F);
+    refused_report(report, SFS_CHECKSUM, 0x1BD, 0);
+    refused_report(report, SFS_INDEX, 65536 - 64, 3);
+    refused_report(report, SFS_REGIONS, 65536 - 192 + 10, 1);
+    refused_report(report, SFS_PATHS, 65536 - 128 + 10, 'S');
+    refused_report(report, SFS_PATHS, 65536 - 128 + 10, 'S');
+    uint8_t *image = session();
+    CHECK(sfs_report_add(image, 65024, report, SFS_REPORT_NUMBERS) == SFS_GEOMETRY);
+    CHECK(sfs_report_add(image, 511, report, SFS_REPORT_NUMBERS) == SFS_IMAGE_LENGTH);
+    CHECK(sfs_report_add(NULL, 0, report, SFS_REPORT_NUMBERS) == SFS_IMAGE_LENGTH);
+    CHECK(report_is(report, (uint64_t[27]){[19] = 2, 1, 1, 1, 1, 1, 1, 2}));
+    free(image);
+    free(report);
+}
+
+/* A volume of more than 65,536 bytes opens and is no image of a report; one of 65,536 is. */
+static void report_long_image(void) {
+    uint8_t *image = new_image(66048);
+    uint64_t *report = new_report(SFS_REPORT_NUMBERS);
+    CHECK(sfs_format(image, 66048, SFS_VERSION_1_0, 512, 1, NULL, 0, 0) == SFS_OK);
+    CHECK(sfs_open(image, 66048, NULL, 0).refusal == SFS_OK);
+    CHECK(sfs_report_add(image, 66048, report, SFS_REPORT_NUMBERS) == SFS_IMAGE_LENGTH);
+    CHECK(sfs_report_add(image, 65537, report, SFS_REPORT_NUMBERS) == SFS_IMAGE_LENGTH);
+    CHECK(sfs_report_add(image, 65536, report, SFS_REPORT_NUMBERS) == SFS_GEOMETRY);
+    CHECK(report_is(report, (uint64_t[27]){[19] = 2, [23] = 1}));
+    free(image);
+    free(report);
+}
+
+/* 18 comes before the image is judged, and nothing is counted. Numbers behind the 27 stay as they are. */
+static void report_lengths(void) {
+    uint8_t *image = session();
+    uint64_t *report = new_report(30);
+    CHECK(sfs_report_add(image, 65536, report, 26) == SFS_OUTPUT_TOO_SHORT);
+    CHECK(sfs_report_add(NULL, 0, report, 26) == SFS_OUTPUT_TOO_SHORT);
+    CHECK(sfs_report_add(image, 65536, NULL, 0) == SFS_OUTPUT_TOO_SHORT);
+    CHECK(report_is(report, (uint64_t[27]){0}));
+    report[27] = 1;
+    report[28] = UINT64_MAX;
+    report[29] = 3;
+    CHECK(sfs_report_add(image, 65536, report, 30) == SFS_OK);
+    CHECK(sfs_report_add(NULL, 0, report, 30) == SFS_IMAGE_LENGTH);
+    CHECK(report_is(report, (uint64_t[27]){1, 1, 3, 0, 0, 0, 1, 0, 0, [19] = 1}));
+    CHECK(report[27] == 1 && report[28] == UINT64_MAX && report[29] == 3);
+    free(image);
+    free(report);
+}
+
+/* Images add up, whatever the numbers were; a sum past 64 bits wraps, and the others go on. */
+static void report_adds(void) {
+    uint8_t *image = session();
+    uint64_t *report = new_report(SFS_REPORT_NUMBERS);
+    for (size_t i = 0; i < SFS_REPORT_NUMBERS; i++)
+        report[i] = 100 * i;
+    report[0] = UINT64_MAX;
+    report[2] = UINT64_MAX - 1;
+    CHECK(sfs_report_add(image, 65536, report, SFS_REPORT_NUMBERS) == SFS_OK);
+    CHECK(report[0] == 0 && report[1] == 101 && report[2] == 1 && report[3] == 300 && report[6] == 601);
+    CHECK(sfs_report_add(image, 65536, report, SFS_REPORT_NUMBERS) == SFS_OK);
+    CHECK(report[0] == 1 && report[1] == 102 && report[2] == 4 && report[6] == 602);
+    for (size_t i = 7; i < SFS_REPORT_NUMBERS; i++)
+        CHECK(report[i] == 100 * i);
+    free(image);
+    free(report);
+}
+
+/* The text of a report is the wanted one, and no byte behind it has changed. */
+static int report_text_is(const uint64_t *report, const char *wanted) {
+    uint8_t *out = new_image(SFS_REPORT_ROOM);
+    size_t length = strlen(wanted);
+    memset(out, 7, SFS_REPORT_ROOM);
+    struct sfs_content text = sfs_report_text(report, SFS_REPORT_NUMBERS, out, SFS_REPORT_ROOM);
+    int same = content_is(text, (struct sfs_content){.length = length}) && memcmp(out, wanted, length) == 0 && out[length] == 7
+        && memcmp(out + length, out + length + 1, SFS_REPORT_ROOM - length - 1) == 0;
+    free(out);
+    return same;
+}
+
+#define MOST "18446744073709551615"
+#define MOST_OF(kind) kind " " MOST " " MOST " " MOST "\n"
+
+static void report_texts(void) {
+    uint64_t *report = new_report(SFS_REPORT_NUMBERS);
+    CHECK(report_text_is(report, "file 0 0 0\ndeleted-file 0 0 0\ndir 0 0 0\ndeleted-dir 0 0 0\nunusable 0 0 0\nunused 0 0 0\n"
+                                 "refused\nunread 0\n"));
+    for (size_t i = 0; i < SFS_REPORT_NUMBERS; i++)
+        report[i] = i + 1;
+    report[20] = 0; /* a refusal that did not occur is not told */
+    report[26] = 0;
+    CHECK(report_text_is(report, "file 1 2 3\ndeleted-file 4 5 6\ndir 7 8 9\ndeleted-dir 10 11 12\nunusable 13 14 15\n"
+                                 "unused 16 17 18\nrefused 1:20 3:22 4:23 5:24 6:25 7:26\nunread 19\n"));
+    memset(report, 0xFF, SFS_REPORT_NUMBERS * sizeof *report);
+    CHECK(report_text_is(report, MOST_OF("file") MOST_OF("deleted-file") MOST_OF("dir") MOST_OF("deleted-dir") MOST_OF("unusable")
+                                 MOST_OF("unused") "refused 1:" MOST " 2:" MOST " 3:" MOST " 4:" MOST " 5:" MOST " 6:" MOST
+                                 " 7:" MOST " 8:" MOST "\nunread " MOST "\n"));
+    free(report);
+}
+
+/* 18 with too few numbers or too little output, and nothing is written; of more numbers the 27 are told. */
+static void report_text_lengths(void) {
+    uint8_t *out = new_image(SFS_REPORT_ROOM + 1), *before = new_image(SFS_REPORT_ROOM + 1);
+    uint64_t *report = new_report(30);
+    memset(report, 1, 30 * sizeof *report);
+    CHECK(zero_content(sfs_report_text(report, 27, out, 1023), SFS_OUTPUT_TOO_SHORT));
+    CHECK(zero_content(sfs_report_text(report, 27, NULL, 0), SFS_OUTPUT_TOO_SHORT));
+    CHECK(zero_content(sfs_report_text(report, 26, out, 1025), SFS_OUTPUT_TOO_SHORT));
+    CHECK(zero_content(sfs_report_text(NULL, 0, out, 1025), SFS_OUTPUT_TOO_SHORT));
+    CHECK(memcmp(out, before, SFS_REPORT_ROOM + 1) == 0);
+    struct sfs_content text = sfs_report_text(report, 27, before, 1024);
+    CHECK(content_is(sfs_report_text(report, 30, out, 1025), text) && text.refusal == SFS_OK);
+    CHECK(memcmp(out, before, SFS_REPORT_ROOM + 1) == 0);
+    free(out);
+    free(before);
+    free(report);
+}
+
+/* Document 01's volume of either edition and an empty file, as the report program is asked. */
+static void report_worked(uint32_t edition) {
+    uint8_t *image = new_image(8192);
+    uint64_t *report = new_report(SFS_REPORT_NUMBERS);
+    CHECK(sfs_format(image, 8192, edition, 512, 2, B("TERM7"), 0) == SFS_OK);
+    CHECK(sfs_create_directory(image, 8192, B("session"), 0x3C0000) == SFS_OK);
+    CHECK(sfs_create_file(image, 8192, B("session/verified"), B("yes"), -1) == SFS_OK);
+    CHECK(sfs_report_add(image, 8192, report, SFS_REPORT_NUMBERS) == SFS_OK);
+    CHECK(sfs_report_add(NULL, 0, report, SFS_REPORT_NUMBERS) == SFS_IMAGE_LENGTH);
+    CHECK(report_text_is(report, "file 1 1 3\ndeleted-file 0 0 0\ndir 1 0 0\ndeleted-dir 0 0 0\nunusable 0 0 0\nunused 0 0 0\n"
+                                 "refused 1:1\nunread 0\n"));
+    free(image);
+    free(report);
+}
+
+static void reports(void) {
+    report_sums();
+    report_editions();
+    report_long_names(SFS_VERSION_1_0);
+    report_long_names(SFS_VERSION_1_10);
+    reports_refused();
+    report_long_image();
+    report_lengths();
+    report_adds();
+    report_texts();
+    report_text_lengths();
+    report_worked(SFS_VERSION_1_0);
+    report_worked(SFS_VERSION_1_10);
+}
+
 int main(void) {
     empty_slices();
     formats_refused();
@@ -960,6 +1213,7 @@ int main(void) {
     unusable_blocks();
     before_directories();
     newer_name_lengths();
+    reports();
     printf("%d passed, %d failed\n", passed, failed);
     return failed != 0;
 }

@@ -86,6 +86,8 @@ extern "C" {
     fn sfs_restore(image: *mut u8, image_len: usize, path: *const u8, path_len: usize, stamp: i64) -> u32;
     fn sfs_reclaim(image: *mut u8, image_len: usize, stamp: i64) -> u32;
     fn sfs_listing(image: *const u8, image_len: usize, out: *mut u8, out_len: usize) -> Content;
+    fn sfs_report_add(image: *const u8, image_len: usize, report: *mut u64, report_len: usize) -> u32;
+    fn sfs_report_text(report: *const u64, report_len: usize, out: *mut u8, out_len: usize) -> Content;
 }
 
 /// The library's calls. Each pointer comes with the length of the slice it was taken from, and no two slices overlap.
@@ -186,5 +188,13 @@ impl Store for Library {
 
     fn listing(&self, image: &[u8], out: &mut [u8]) -> Read {
         content(unsafe { sfs_listing(image.as_ptr(), image.len(), out.as_mut_ptr(), out.len()) })
+    }
+
+    fn report_add(&self, image: &[u8], report: &mut [u64]) -> Written {
+        written(unsafe { sfs_report_add(image.as_ptr(), image.len(), report.as_mut_ptr(), report.len()) })
+    }
+
+    fn report_text(&self, report: &[u64], out: &mut [u8]) -> Read {
+        content(unsafe { sfs_report_text(report.as_ptr(), report.len(), out.as_mut_ptr(), out.len()) })
     }
 }

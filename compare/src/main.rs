@@ -1,8 +1,9 @@
 //! `compare SEED CALLS [KIND]`: a generated script on both stores, line by line, over both editions. The first difference ends the run
-//! and prints a script that shows it; without one it says how often restore gave each answer, and how often calls on volumes of edition
-//! 1.10 did. `compare counts SEED CALLS [KIND]`: the same, but it says how often each call gave each answer in each edition.
-//! `compare bench`: the calls on 16 MiB volumes of several looks and sizes (those alone whose names begin with VOLUMES, if it is given),
-//! all programs in one run. `compare names`: the name rule by both programs and by Rust's own reading of UTF-8, on every short string.
+//! and prints a script that shows it; without one it says how often restore gave each answer, how often calls on volumes of edition
+//! 1.10 did, and how often adding an image to a report did. `compare counts SEED CALLS [KIND]`: the same, but it says how often each
+//! call gave each answer in each edition. `compare bench`: the calls on 16 MiB volumes of several looks and sizes (those alone whose
+//! names begin with VOLUMES, if it is given), all programs in one run. `compare names`: the name rule by both programs and by Rust's
+//! own reading of UTF-8, on every short string.
 
 #[cfg(before)]
 #[allow(dead_code)]
@@ -15,12 +16,12 @@ mod names;
 
 use library::Library;
 use second::generator;
-use second::script::Session;
-use second::selftest::{call_table, newer_table, restore_table};
+use second::script::{Session, REPORT_ROOM};
+use second::selftest::{call_table, newer_table, report_table, restore_table};
 use second::Edition;
 use std::process::ExitCode;
 
-const USAGE: &str = "usage: compare [counts] SEED CALLS [history|damage|built|edges|args|names|restore|tails|crowded|sums|editions]
+const USAGE: &str = "usage: compare [counts] SEED CALLS [history|damage|built|edges|args|names|restore|tails|crowded|sums|editions|report]
        compare bench [VOLUMES]
        compare names";
 
@@ -53,7 +54,8 @@ fn main() -> ExitCode {
 type Told = fn(&Session) -> String;
 
 fn tables(own: &Session) -> String {
-    restore_table(&own.answers("restore")) + &newer_table(&own.answers_in(Edition::V1_10))
+    let newer = newer_table(&own.answers_in(Edition::V1_10));
+    restore_table(&own.answers("restore")) + &newer + &report_table(&own.answers("reportadd"))
 }
 
 fn counts(own: &Session) -> String {
@@ -67,27 +69,31 @@ fn compare(seed: &str, calls: &str, kind: Option<&str>, told: Told) -> Result<St
     let mut own = Session::default();
     let mut library = Session::over(Library);
     let lines: Vec<&str> = script.lines().collect();
-    let mut histories = 0;
+    let mut histories = 0u64;
     for (place, line) in lines.iter().enumerate() {
+        let report = *own.report();
         let wanted = own.execute(line)?;
         let got = library.execute(line)?;
-        if wanted != got || own.image() != library.image() {
-            return Err(difference(&lines[..=place], &wanted, &got));
+        let alike = wanted == got && own.image() == library.image() && own.report() == library.report();
+        let failed = wanted.as_deref().is_some_and(|text| text.starts_with("history FAILED"));
+        if failed || !alike {
+            return Err(difference(&lines[..=place], &report, &wanted, &got));
         }
-        match wanted.as_deref() {
-            Some(text) if text.starts_with("history FAILED") => return Err(difference(&lines[..=place], &wanted, &got)),
-            Some("history ok") => histories += 1,
-            _ => {}
-        }
+        histories += u64::from(wanted.as_deref() == Some("history ok"));
     }
     Ok(format!("{}seed {seed}: {} calls alike, {histories} histories held", told(&own), own.calls))
 }
 
-/// The lines since the image was last made anew, which are enough to show a difference.
-fn difference(lines: &[&str], wanted: &Option<String>, got: &Option<String>) -> String {
+/// The lines since the image was last made anew, which are enough to show a difference once the report, which is kept from image to
+/// image, is what it was before the last of them.
+fn difference(lines: &[&str], report: &[u64; REPORT_ROOM], wanted: &Option<String>, got: &Option<String>) -> String {
     let start = lines.iter().rposition(|line| line.starts_with("image")).unwrap_or(0);
-    let script = lines[start..].join("\n");
-    format!("{script}\n# second: {}\n# library: {}", show(wanted), show(got))
+    let mut script: Vec<String> = lines[start..].iter().map(|line| line.to_string()).collect();
+    let last = script.pop().unwrap_or_default();
+    if last.starts_with("report") {
+        script.extend(report.iter().enumerate().map(|(place, number)| format!("reportset {place} {number}")));
+    }
+    format!("{}\n# second: {}\n# library: {}", [script, vec![last]].concat().join("\n"), show(wanted), show(got))
 }
 
 fn show(line: &Option<String>) -> &str {

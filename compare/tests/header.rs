@@ -81,6 +81,8 @@ fn c_declared(text: &str) -> (&str, &str) {
         "size_t" => "usize",
         "uint8_t *" => "*mut u8",
         "const uint8_t *" => "*const u8",
+        "uint64_t *" => "*mut u64",
+        "const uint64_t *" => "*const u64",
         "void" => "()",
         other => other,
     };
@@ -154,6 +156,8 @@ fn rust_list(text: &str) -> Result<String, String> {
         list.push(match cut(part, ": ")? {
             (name, "&[u8]") => format!("{name}: *const u8, {name}_len: usize"),
             (name, "&mut [u8]") => format!("{name}: *mut u8, {name}_len: usize"),
+            (name, "&[u64]") => format!("{name}: *const u64, {name}_len: usize"),
+            (name, "&mut [u64]") => format!("{name}: *mut u64, {name}_len: usize"),
             (name, kind) => format!("{name}: {kind}"),
         });
     }

@@ -4,7 +4,7 @@
 use crate::index::Entry;
 use crate::refusal::Refusal;
 
-/// The answer of the calls that write: format, create, delete, restore and reclaim.
+/// The answer of the calls that write: format, create, delete, restore and reclaim, and report_add.
 #[derive(Clone, Copy, Debug, Default, PartialEq, Eq)]
 pub struct Written {
     pub refusal: Refusal,
@@ -64,7 +64,7 @@ pub struct Records {
     pub next: u64,
 }
 
-/// The answer of read and of listing.
+/// The answer of read, listing and report_text.
 #[derive(Clone, Copy, Debug, Default, PartialEq, Eq)]
 pub struct Read {
     pub refusal: Refusal,

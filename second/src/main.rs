@@ -1,15 +1,19 @@
-//! The command line: `second run`, `second gen`, `second selftest` and `second listing`.
+//! The command line: `second run`, `gen`, `selftest`, `listing`, `report` and `volumes`.
 #![forbid(unsafe_code)]
 
 use second::script::Session;
-use second::{generator, listing, selftest};
+use second::{generator, listing, report, selftest};
+use std::fs;
 use std::io::{self, BufRead, BufWriter, Read, Write};
+use std::path::Path;
 use std::process::ExitCode;
 
 const USAGE: &str = "usage: second run < SCRIPT
-       second gen SEED COUNT [history|damage|built|edges|args|names|restore|tails|crowded|sums|editions]
+       second gen SEED COUNT [history|damage|built|edges|args|names|restore|tails|crowded|sums|editions|report]
        second selftest SEED SCRIPTS
-       second listing < IMAGE";
+       second listing < IMAGE
+       second report < NAMES
+       second volumes SEED COUNT DIRECTORY > NAMES";
 
 fn main() -> ExitCode {
     let arguments: Vec<String> = std::env::args().skip(1).collect();
@@ -20,6 +24,8 @@ fn main() -> ExitCode {
         ["gen", seed, count, kind] => generate(seed, count, Some(kind)),
         ["selftest", seed, scripts] => test_self(seed, scripts),
         ["listing"] => list_input(),
+        ["report"] => report_input(),
+        ["volumes", seed, count, directory] => write_volumes(seed, count, directory),
         _ => Err(USAGE.to_string()),
     };
     match outcome {
@@ -75,4 +81,21 @@ fn list_input() -> Result<(), String> {
     // One byte past the limit is enough to refuse longer input.
     io::stdin().lock().take(listing::MOST_INPUT as u64 + 1).read_to_end(&mut input).map_err(told)?;
     io::stdout().lock().write_all(&listing::listing_text(&input)).map_err(told)
+}
+
+fn report_input() -> Result<(), String> {
+    io::stdout().lock().write_all(&report::report_of(io::stdin().lock())).map_err(told)
+}
+
+/// Writes volumes into files of the directory, which is made if there is none, and prints the names.
+fn write_volumes(seed: &str, count: &str, directory: &str) -> Result<(), String> {
+    let (volumes, count) = (generator::Volumes::new(number(seed)?), number(count)?);
+    fs::create_dir_all(directory).map_err(told)?;
+    let mut output = BufWriter::new(io::stdout().lock());
+    for (place, image) in (1..=count).zip(volumes) {
+        let path = Path::new(directory).join(format!("v{place:04}.img"));
+        fs::write(&path, image).map_err(told)?;
+        writeln!(output, "{}", path.display()).map_err(told)?;
+    }
+    output.flush().map_err(told)
 }

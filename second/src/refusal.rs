@@ -34,5 +34,8 @@ pub const OF_RESTORE: [Refusal; 15] = [0, 1, 2, 3, 4, 5, 6, 7, 8, 9, 10, 11, 12,
 /// The numbers that calls on a volume of edition 1.10 can answer once its length is right, formats left out.
 pub const OF_1_10: [Refusal; 16] = [0, 3, 4, 5, 6, 7, 8, 10, 11, 12, 13, 14, 15, 16, 17, 18];
 
+/// The numbers that adding an image to a report can answer.
+pub const OF_REPORT: [Refusal; 10] = [0, 1, 2, 3, 4, 5, 6, 7, 8, 18];
+
 /// How often each number was answered, success at place 0.
 pub type Counts = [u64; HIGHEST as usize + 1];

@@ -4,12 +4,16 @@ use crate::answer::{Found, Listed, Opened, Read, Records};
 use crate::edition::Edition;
 use crate::history::{History, Told};
 use crate::refusal::{Counts, Refusal};
+use crate::report;
 use crate::store::{Own, Store};
 use crate::xorshift::fill;
 use std::collections::BTreeMap;
 
 /// The most bytes a script may ask for in one piece.
 pub const MOST_BYTES: u64 = 17_000_000;
+
+/// The numbers that a script keeps for its report. Calls are lent the first of them: a write behind those shows.
+pub const REPORT_ROOM: usize = 40;
 
 /// FNV-1a, 64 bits.
 pub fn digest(bytes: &[u8]) -> u64 {
@@ -19,6 +23,11 @@ pub fn digest(bytes: &[u8]) -> u64 {
 /// A lent output, prefilled so that stray writes show in its digest.
 pub fn lent(length: usize) -> Vec<u8> {
     (0..length).map(|place| 0xA5 ^ (place.wrapping_mul(7) & 0xFF) as u8).collect()
+}
+
+/// A report without an image; each number behind it is that of its place.
+pub fn new_report() -> [u64; REPORT_ROOM] {
+    std::array::from_fn(|place| if place < report::NUMBERS { 0 } else { place as u64 })
 }
 
 /// Lower-case hex, `-` for no bytes.
@@ -57,6 +66,15 @@ impl<'a> Words<'a> {
         bounded(self.number()?)
     }
 
+    /// A number of at most `most`.
+    fn up_to(&mut self, most: usize) -> Result<usize, String> {
+        let number = self.length()?;
+        if number > most {
+            return Err(format!("{number} is over {most}"));
+        }
+        Ok(number)
+    }
+
     fn bytes(&mut self) -> Result<Vec<u8>, String> {
         unhex(self.word()?)
     }
@@ -92,13 +110,14 @@ pub struct Session<S = Own> {
     store: S,
     image: Vec<u8>,
     history: Option<History>,
-    /// How often each refusal number was the answer of a call; listings and histories not counted.
+    report: [u64; REPORT_ROOM],
+    /// How often each refusal number was the answer of a call; listings, reports and histories not counted.
     pub met: Counts,
-    /// The same with listings, parted by call; api has no such number.
+    /// The same with listings and reports, parted by call; api has no such number.
     by_call: BTreeMap<Called, Counts>,
-    /// Calls answered, listings and api among them.
+    /// Calls answered, listings, reports and api among them.
     pub calls: u64,
-    /// The last call's refusal number.
+    /// The last call's refusal number, listings and reports left out.
     pub last: Refusal,
     digests: bool,
 }
@@ -120,11 +139,16 @@ impl<S: Store> Session<S> {
     /// A session whose calls go to this store.
     pub fn over(store: S) -> Self {
         let (image, met, by_call) = Default::default();
-        Session { store, image, history: None, met, by_call, calls: 0, last: 0, digests: true }
+        let report = new_report();
+        Session { store, image, history: None, report, met, by_call, calls: 0, last: 0, digests: true }
     }
 
     pub fn image(&self) -> &[u8] {
         &self.image
+    }
+
+    pub fn report(&self) -> &[u64; REPORT_ROOM] {
+        &self.report
     }
 
     /// How often each call answered each number, by edition.
@@ -137,9 +161,10 @@ impl<S: Store> Session<S> {
         self.sum(|(called, _)| called == word)
     }
 
-    /// How often calls on images with this edition's magic answered each number, formats and listings left out.
+    /// How often calls on images with this edition's magic answered each number, but for formats, listings and reports.
     pub fn answers_in(&self, edition: Edition) -> Counts {
-        self.sum(|(word, met)| *met == Some(edition) && !matches!(word.as_str(), "format" | "listing"))
+        let others = ["format", "listing", "reportadd", "reporttext"];
+        self.sum(|(word, met)| *met == Some(edition) && !others.contains(&word.as_str()))
     }
 
     fn sum(&self, wanted: impl Fn(&Called) -> bool) -> Counts {
@@ -161,6 +186,9 @@ impl<S: Store> Session<S> {
             "open" | "find" | "list" | "listall" | "read" => self.ask(word, words).map(Some),
             "format" | "mkfile" | "mkdir" | "delete" | "restore" | "reclaim" => self.write(word, words).map(Some),
             "listing" => self.listing(words).map(Some),
+            "reportnew" | "reportset" => self.set_report(word, words).map(|()| None),
+            "reportadd" => self.report_add(words).map(Some),
+            "reporttext" => self.report_text(words).map(Some),
             "api" => words.done().map(|()| Some(self.api())),
             "history" => words.done().map(|()| Some(self.check())),
             _ => Err(format!("unknown command {word:.20}")),
@@ -245,6 +273,38 @@ impl<S: Store> Session<S> {
         self.count_by_call("listing", number, Edition::of_image(&self.image));
         let (refusal, numbers) = content(answer);
         Ok(self.answer("listing", refusal, &numbers, Some(&output)))
+    }
+
+    /// Commands that change the report behind the calls' back.
+    fn set_report(&mut self, word: &str, mut words: Words) -> Result<(), String> {
+        match word {
+            "reportnew" => self.report = new_report(),
+            _ => {
+                let place = words.up_to(REPORT_ROOM - 1)?;
+                self.report[place] = words.number()?;
+            }
+        }
+        words.done()
+    }
+
+    fn report_add(&mut self, mut words: Words) -> Result<String, String> {
+        let numbers = words.up_to(REPORT_ROOM)?;
+        words.done()?;
+        let refusal = self.store.report_add(&self.image, &mut self.report[..numbers]).refusal;
+        self.calls += 1;
+        self.count_by_call("reportadd", refusal, Edition::of_image(&self.image));
+        Ok(self.answer("reportadd", refusal, &self.report.map(i128::from), None))
+    }
+
+    /// It goes by no image, and so by no edition.
+    fn report_text(&mut self, mut words: Words) -> Result<String, String> {
+        let numbers = words.up_to(REPORT_ROOM)?;
+        let mut output = lent(words.length()?);
+        words.done()?;
+        let (refusal, length) = content(self.store.report_text(&self.report[..numbers], &mut output));
+        self.calls += 1;
+        self.count_by_call("reporttext", refusal, None);
+        Ok(self.answer("reporttext", refusal, &length, Some(&output)))
     }
 
     fn api(&mut self) -> String {

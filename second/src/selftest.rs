@@ -2,7 +2,7 @@
 
 use crate::edition::Edition;
 use crate::generator;
-use crate::refusal::{Counts, Refusal, OF_1_10, OF_RESTORE};
+use crate::refusal::{Counts, Refusal, OF_1_10, OF_REPORT, OF_RESTORE};
 use crate::script::{Called, Session};
 use std::collections::BTreeMap;
 use std::fmt;
@@ -18,8 +18,10 @@ pub struct Tally {
     pub met: Counts,
     /// The same for the restores alone.
     pub restores: Counts,
-    /// The same for the calls on images of edition 1.10 alone, formats and listings left out.
+    /// The same for the calls on images of edition 1.10 alone; formats, listings and reports left out.
     pub newer: Counts,
+    /// The same for the images added to reports.
+    pub reports: Counts,
     pub failures: Vec<String>,
 }
 
@@ -57,6 +59,7 @@ fn run_one(script: String, place: u64, tally: &mut Tally) {
     add(&mut tally.met, &session.met);
     add(&mut tally.restores, &session.answers("restore"));
     add(&mut tally.newer, &session.answers_in(Edition::V1_10));
+    add(&mut tally.reports, &session.answers("reportadd"));
 }
 
 fn add(sums: &mut Counts, more: &Counts) {
@@ -71,6 +74,11 @@ pub fn restore_table(counts: &Counts) -> String {
 /// A line for each number that a call on a volume of edition 1.10 can answer.
 pub fn newer_table(counts: &Counts) -> String {
     table("edition 1.10", &OF_1_10, counts)
+}
+
+/// A line for each number that adding an image to a report can answer.
+pub fn report_table(counts: &Counts) -> String {
+    table("reportadd", &OF_REPORT, counts)
 }
 
 /// A line for each call, edition and number that was met: word, edition, number, how often.
@@ -95,6 +103,7 @@ impl fmt::Display for Tally {
         }
         text.write_str(&restore_table(&self.restores))?;
         text.write_str(&newer_table(&self.newer))?;
+        text.write_str(&report_table(&self.reports))?;
         writeln!(text, "scripts {} calls {}", self.scripts, self.calls)
     }
 }

@@ -27,6 +27,8 @@ pub trait Store {
     fn restore(&self, image: &mut [u8], path: &[u8], stamp: i64) -> Written;
     fn reclaim(&self, image: &mut [u8], stamp: i64) -> Written;
     fn listing(&self, image: &[u8], output: &mut [u8]) -> Read;
+    fn report_add(&self, image: &[u8], report: &mut [u64]) -> Written;
+    fn report_text(&self, report: &[u64], output: &mut [u8]) -> Read;
 }
 
 /// This crate's own calls.
@@ -92,5 +94,13 @@ impl Store for Own {
 
     fn listing(&self, image: &[u8], output: &mut [u8]) -> Read {
         crate::listing(image, output)
+    }
+
+    fn report_add(&self, image: &[u8], report: &mut [u64]) -> Written {
+        crate::report_add(image, report)
+    }
+
+    fn report_text(&self, report: &[u64], output: &mut [u8]) -> Read {
+        crate::report_text(report, output)
     }
 }

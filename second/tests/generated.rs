@@ -23,8 +23,11 @@ fn histories_hold() {
 
 #[test]
 fn scripts_are_the_same_every_time() {
-    let kinds =
-        ["history", "damage", "built", "edges", "args", "names", "restore", "tails", "crowded", "sums", "editions"];
+    #[rustfmt::skip]
+    let kinds = [
+        "history", "damage", "built", "edges", "args", "names", "restore", "tails", "crowded", "sums", "editions",
+        "report",
+    ];
     for kind in kinds {
         let script = generator::script(3, 200, Some(kind));
         assert!(script.as_ref().is_some_and(|script| script.len() > 1000));
@@ -258,6 +261,11 @@ fn printed(script: &str) -> Vec<String> {
     script.lines().filter_map(|line| session.execute(line).unwrap()).collect()
 }
 
+/// The lines without their digests.
+fn bare(lines: &[String]) -> Vec<&str> {
+    lines.iter().map(|line| line.split(" out=").next().unwrap().split(" img=").next().unwrap()).collect()
+}
+
 #[test]
 fn lines_are_as_described() {
     assert_eq!(digest(b""), 0xCBF2_9CE4_8422_2325);
@@ -269,8 +277,6 @@ fn lines_are_as_described() {
                   listall 0 57\nlistall 0 56\nlistall 2 0\nread 61 2\nfind 61\nlisting 131071\nlisting 131072\napi\n\
                   history\npoke 9000 00\nhistory\n";
     let lines = printed(script);
-    let bare: Vec<&str> =
-        lines.iter().map(|line| line.split(" out=").next().unwrap().split(" img=").next().unwrap()).collect();
     let expected = [
         "open 1 0 0 0 0 0 0 0 0 0 0",
         "history none",
@@ -289,8 +295,35 @@ fn lines_are_as_described() {
         "history ok",
         "history none",
     ];
-    assert_eq!(bare, expected);
+    assert_eq!(bare(&lines), expected);
     assert_eq!(lines[0], "open 1 0 0 0 0 0 0 0 0 0 0 out=cbf29ce484222325 img=cbf29ce484222325");
+}
+
+#[test]
+fn lines_of_reports() {
+    let script = "image 8192\nformat 16 512 1 5445 -5\nmkfile 61 9 616263\nreportset 39 5\n\
+                  reportset 2 18446744073709551615\nreportadd 27\nreportadd 26\nreporttext 27 1024\n\
+                  reporttext 26 1024\nreporttext 27 1023\nreportnew\nreporttext 40 1100\nhistory\n";
+    let zeros = "0 ".repeat(24);
+    let report = format!("1 1 2 {zeros}27 28 29 30 31 32 33 34 35 36 37 38 5");
+    let expected = [
+        "format 0",
+        "mkfile 0",
+        &format!("reportadd 0 {report}"),
+        &format!("reportadd 18 {report}"),
+        "reporttext 0 103",
+        "reporttext 18 0",
+        "reporttext 18 0",
+        "reporttext 0 103",
+        "history ok",
+    ];
+    let lines = printed(script);
+    assert_eq!(bare(&lines), expected);
+    // Only the two that are accepted write, and none of them the same.
+    let outputs: Vec<&str> = lines.iter().filter_map(|line| line.split_once(" out=")?.1.split(' ').next()).collect();
+    let untouched = [1_024, 1_023].map(|room| format!("{:016x}", digest(&lent(room))));
+    assert_eq!(outputs[1..3], untouched);
+    assert!(outputs[0] != untouched[0] && outputs[0] != outputs[3]);
 }
 
 #[test]
@@ -311,6 +344,16 @@ fn lines_that_cannot_be_read() {
         "listall -1 9",
         "api 1",
         "mkfile 61 1 fill:3",
+        "reportadd",
+        "reportadd 41",
+        "reportadd 27 27",
+        "reportset 40 1",
+        "reportset 0",
+        "reportset 0 18446744073709551616",
+        "reportnew 1",
+        "reporttext 27",
+        "reporttext 41 1024",
+        "reporttext 27 17000001",
     ] {
         assert!(Session::default().execute(line).is_err(), "{line}");
     }
@@ -341,6 +384,7 @@ fn any_image_gets_an_answer() {
                 "restore 41 1",
                 "reclaim 1",
                 "listing 131072",
+                "reportadd 27",
             ]
             .map(String::from),
         );

@@ -242,9 +242,10 @@ fn indexes_claimed_many_times_over() {
             *counts.entry(word.to_string()).or_default() += 1;
         }
     });
-    // These two leave the answer of the call before them.
-    counts.remove("listing");
-    counts.remove("api");
+    // These leave the answer of the call before them.
+    for word in ["listing", "api", "reportadd", "reporttext"] {
+        counts.remove(word);
+    }
     // Every other call accepted on such an index, but for restore, which never is, and format.
     assert_all(&counts, 9, 5);
 }
@@ -355,7 +356,7 @@ fn answers_of_every_sort() {
 
 /// What a call can answer on an image with a magic besides 0 and the numbers of the whole volume, in 1.0 and in 1.10.
 #[rustfmt::skip]
-const OF_CALLS: [(&str, &[u8], &[u8]); 11] = [
+const OF_CALLS: [(&str, &[u8], &[u8]); 12] = [
     ("open", &[18], &[18]),
     ("find", &[10, 11], &[10, 11]),
     ("list", &[18], &[18]),
@@ -367,6 +368,7 @@ const OF_CALLS: [(&str, &[u8], &[u8]); 11] = [
     ("restore", &[9, 10, 11, 12, 13, 19], &[10, 11]),
     ("reclaim", &[9], &[]),
     ("listing", &[18], &[18]),
+    ("reportadd", &[18], &[18]),
 ];
 
 /// All that a call can answer, by the edition of the image, or for a format of its version.
@@ -374,7 +376,8 @@ fn answerable(word: &str, edition: Option<Edition>) -> Vec<u8> {
     match (word, edition) {
         ("format", Some(_)) => return vec![0, 1, 5, 10],
         ("format", None) => return vec![1, 5],
-        ("listing", None) => return vec![1, 2, 18],
+        ("listing" | "reportadd", None) => return vec![1, 2, 18],
+        ("reporttext", None) => return vec![0, 18],
         (_, None) => return vec![1, 2],
         _ => {}
     }
@@ -399,7 +402,8 @@ fn every_answer_of_every_call_in_both_editions() {
         }
     }
     println!("{}", selftest::call_table(&met));
-    assert_eq!(met.len(), 12 * 3);
+    // The text of a report goes by no image.
+    assert_eq!(met.len(), 13 * 3 + 1);
     for ((word, edition), counts) in &met {
         let numbers: Vec<u8> = (0..).zip(counts).filter(|(_, count)| **count > 0).map(|(number, _)| number).collect();
         assert_eq!(numbers, answerable(word, *edition), "{word} {edition:?}");

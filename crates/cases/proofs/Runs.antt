@@ -1,11 +1,12 @@
 -- Small runs, from bytes to bytes: what the calls answer one after the other, and what they leave.
 use Prim.Native.Nat.{ℕ, _-_, _*_}
 use Prim.Native.String.{String}
-use mathlib.Core.Bool.{true}
+use mathlib.Core.Bool.{true, false}
 use mathlib.Core.Path.{_≡_, refl}
 use mathlib.Core.List.{List, [], _∷_, _++_}
-use lib.ListN.{drop, replicate}
+use lib.ListN.{length, drop, replicate}
 use lib.IntN.{pos, negsuc}
+use Rattle.rules.specs.Lists.{pick, eqList}
 use Rattle.rules.specs.Fields.{splice}
 use Rattle.rules.specs.Editions.{edition10}
 use Rattle.rules.specs.Index.{typeFile, typeDirectory}
@@ -16,6 +17,7 @@ use Rattle.rules.specs.Writing.{newFile, newDirectory, formatOf, createOf, dele
 use Rattle.rules.specs.History.{Call, format, openVolume, find, list, listAll, read, create, delete, restore, reclaim, step, run, told, nothing}
 use Rattle.rules.specs.Text.{text, joined}
 use Rattle.rules.specs.Listing.{listingOf}
+use Rattle.rules.specs.Report.{unread, image, reportOf, outputOf, newline, namesOf, nameOfFile}
 use Rattle.cases.proofs.Computing.{everything}
 use Rattle.cases.proofs.Table.{date}
 
@@ -466,3 +468,35 @@ pub date-ends :
     ∷ []
 unfolding everything
 date-ends = refl
+
+-- ---- the report: document 02's lines for this volume and an empty image
+-- as the program writes them, asked with two names, the last without a newline
+pub terminal-report :
+    outputOf (λ name. pick (eqList name (text "term7.img")) (image terminal) (image [])) (text "term7.img\nempty")
+    ≡ text "file 1 1 3\ndeleted-file 0 0 0\ndir 1 0 0\ndeleted-dir 0 0 0\nunusable 0 0 0\nunused 0 0 0\nrefused 1:1\nunread 0\n"
+unfolding everything
+terminal-report = refl
+
+-- no input; what cannot be read, and too long an image; deleted entries, and the slots that a reclaim leaves
+pub other-reports :
+    (reportOf [] ≡ text "file 0 0 0\ndeleted-file 0 0 0\ndir 0 0 0\ndeleted-dir 0 0 0\nunusable 0 0 0\nunused 0 0 0\nrefused\nunread 0\n")
+    × (reportOf (unread ∷ image (blank 65_537) ∷ image (blank 512) ∷ unread ∷ image [] ∷ [])
+    ≡ text "file 0 0 0\ndeleted-file 0 0 0\ndir 0 0 0\ndeleted-dir 0 0 0\nunusable 0 0 0\nunused 0 0 0\nrefused 1:2 2:1\nunread 2\n")
+    × (reportOf (image (run token logout) ∷ []) ≡ text "file 0 0 0\ndeleted-file 1 1 3\ndir 0 0 0\ndeleted-dir 1 0 0\nunusable 0 0 0\nunused 0 0 0\nrefused\nunread 0\n")
+    × (reportOf (image (run token (logout ++ (reclaim (pos 4) ∷ []))) ∷ [])
+    ≡ text "file 0 0 0\ndeleted-file 0 0 0\ndir 0 0 0\ndeleted-dir 0 0 0\nunusable 0 0 0\nunused 2 0 0\nrefused\nunread 0\n")
+unfolding everything
+other-reports = (refl, refl, refl, refl)
+
+-- lines: empty ones count, the last may lack its newline, a carriage return is part of the name
+pub report-names :
+    (namesOf (text "a\n\nb\r\nc") ≡ text "a" ∷ [] ∷ text "b\r" ∷ text "c" ∷ [])
+    × (namesOf [] ≡ [])
+    × (namesOf (text "\n") ≡ [] ∷ [])
+    × (length (namesOf (replicate 1_001 newline)) ≡ 1_000)
+    × (nameOfFile (replicate 255 97) ≡ true)
+    × (nameOfFile (replicate 256 97) ≡ false)
+    × (nameOfFile [] ≡ false)
+    × (nameOfFile (text "a\0b") ≡ false)
+unfolding everything
+report-names = (refl, refl, refl, refl, refl, refl, refl, refl)

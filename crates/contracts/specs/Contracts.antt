@@ -9,6 +9,7 @@ use Rattle.rules.specs.Reading.{openOf, findOf, listOf, readOf}
 use Rattle.rules.specs.Records.{RecordsNumbers, listAllOf}
 use Rattle.rules.specs.Writing.{Written, New, newFile, newDirectory, formatOf, createOf, deleteOf, restoreOf, reclaimOf}
 use Rattle.rules.specs.Listing.{textOf}
+use Rattle.rules.specs.Report.{countImage, reportTextOf}
 use Rattle.contracts.specs.declared.Volume.{Volume}
 use Rattle.contracts.specs.declared.Entry.{Entry}
 use Rattle.contracts.specs.declared.Listed.{Listed}
@@ -118,3 +119,11 @@ Reclaims s stamp r t = writtenAs r t ≡ reclaimOf s stamp
 -- ---- sfs_listing: the length of the listing program's text, and the text in an output that any text fits
 abbrev pub WritesListing : List ℕ → List ℕ → Content → List ℕ → Type 0
 WritesListing s out r after = contentView s after r ≡ textOf s out
+
+-- ---- sfs_report_add: the image counted in a report's numbers, ns before and `after` behind it; the answer is the image's refusal
+abbrev pub CountsImage : List ℕ → List ℕ → ℕ → List ℕ → Type 0
+CountsImage s ns r after = record { answer = r; numbers = after } ≡ countImage s ns
+
+-- ---- sfs_report_text: the length of a report's text, and the text in an output that any text fits
+abbrev pub WritesReport : List ℕ → List ℕ → Content → List ℕ → Type 0
+WritesReport ns out r after = contentView ns after r ≡ reportTextOf ns out

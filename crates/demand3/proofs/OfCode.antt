@@ -4,11 +4,11 @@ use Prim.Native.Nat.{ℕ, _+_, _≤_}
 use mathlib.Core.Path.{_≡_, refl, sym, ap, _∙_}
 use mathlib.Core.List.{List, [], _∷_, _++_, map, append-assoc}
 use lib.ListN.{length, length-map}
-use borrow.Author.Tests.{le-leb}
 use Rattle.rules.specs.Lists.{All, only}
 use Rattle.rules.specs.Index.{volumeName}
 use Rattle.rules.specs.Paths.{isLive}
-use Rattle.rules.specs.Refusals.{accepted, need, Volume, entries, judge}
+use Rattle.rules.specs.Refusals.{accepted, Volume, entries, judge}
+use Rattle.rules.specs.Refusals.Laws.{read-short}
 use Rattle.rules.specs.Outcome.{Outcome, done}
 use Rattle.rules.specs.Writing.{formatOf}
 use Rattle.rules.specs.Text.{text}
@@ -69,8 +69,8 @@ bytes-back u h holds path out r after e =
 -- ---- what sfs_listing counts
 listing-is : (u : List ℕ) (v : Volume) → judge u ≡ accepted v → length u ≤ 65_536
     → listingOf u ≡ (volumeName u ++ text "\n") ++ (linesOf (only isLive (entries v)) ++ countLine (entries v))
-unfolding listingOf volumeText need
-listing-is u v opens short = rw (le-leb (length u) 65_536 short, opens)
+unfolding listingOf volumeText
+listing-is u v opens short = ap (volumeText u) (read-short u short ∙ opens)
 
 pub listing-counts : (u : List ℕ) (h : History) → Holds u h → (out : List ℕ) (r : Content) (after : List ℕ) → WritesListing u out r after
     → ListingCounts h u out r after

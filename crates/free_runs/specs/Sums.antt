@@ -1,13 +1,12 @@
 -- Blocks held and the least end of the data area, one entry at a time, and that no sum of blocks passes 64 bits.
-use Prim.Native.Nat.{ℕ, zero, suc, _+_, _-_, _*_, _^_, _≤_, _<_, max}
+use Prim.Native.Nat.{ℕ, _+_, _-_, _*_, _^_, _≤_, _<_, max}
 use mathlib.Core.Path.{_≡_, refl}
 use mathlib.Core.Bool.{Bool, true, false, not}
 use mathlib.Core.List.{List, [], _∷_}
 use native.Mathlib.Omega.{arith}
 use lib.ListN.{length, drop}
 use Rattle.rules.specs.Lists.{pick, only, keepIf, sum, largest, All}
-use Rattle.rules.specs.Editions.{Edition}
-use Rattle.rules.specs.Index.{Entry, Item, unused, stale, entry, fault, fileType, itemAt, entriesOf, walk, followed, slotBytes}
+use Rattle.rules.specs.Index.{Entry, fileType}
 use Rattle.rules.specs.Index.Walk.{walkAll, pick-both}
 use Rattle.rules.specs.Regions.{blocksOf, heldBlocks}
 use Rattle.rules.specs.Paths.{isDeleted}
@@ -17,6 +16,7 @@ use Rattle.slots.specs.declared.Head.{Head}
 use Rattle.slots.specs.View.{headView, end-near}
 use Rattle.index.specs.declared.Cursor.{Cursor}
 use Rattle.index.specs.Steps.{Walks, entriesFrom}
+use Rattle.laws.proofs.Index.Entries.{few-entries}
 use Rattle.ordering.specs.Regions.{Small}
 use Rattle.regions.specs.Gathering.{small-end}
 
@@ -61,19 +61,6 @@ small-stored s h small = omega (arith, small-end (headView s h) small, end-near 
 -- of the first entry, and of those behind it
 pub small-next : (es : List Entry) (x : Entry) (xs : List Entry) → es ≡ x ∷ xs → All Small es → Small x × All Small xs
 small-next es x xs e h = rw e at h
-
-few-followed : (n : ℕ) (i : Item) (rest : ℕ → List Item) → ((m : ℕ) → length (entriesOf (rest m)) ≤ n) → length (entriesOf (followed i rest)) ≤ suc n
-unfolding followed entriesOf
-few-followed n (unused k) rest h = omega (arith, h 1)
-few-followed n (stale k m) rest h = omega (arith, h m)
-few-followed n (entry e) rest h = omega (arith, h (e .slots))
-few-followed n (fault k) rest h = omega arith
-
-few-entries : (ed : Edition) (n left k : ℕ) (a : List ℕ) → length (entriesOf (walk ed n left k a)) ≤ n
-unfolding walk entriesOf
-few-entries ed zero left k a = omega arith
-few-entries ed (suc n) zero k a = omega arith
-few-entries ed (suc n) (suc left) k a = few-followed n (itemAt ed (suc left) k a) _ (λ m. few-entries ed n (suc left - m) (k + m) (drop (slotBytes * m) a))
 
 blocks-most : (e : Entry) → Small e → fileBlocks e ≤ 65_536
 unfolding fileBlocks blocksOf

@@ -164,7 +164,8 @@ impl Geometry {
         if n < self.index_bytes {
             return false;
         }
-        self.data_start().has_room(self.data_blocks, self.ceiling(n))
+        self.data_start()
+            .has_room(self.data_blocks, self.ceiling(n))
     }
 }
 

@@ -1,5 +1,5 @@
 -- The code's judgement in the rules' words, and what callers know of an image that opens.
-use Prim.Native.Nat.{ℕ, _≤_}
+use Prim.Native.Nat.{ℕ, _≤_, _<_}
 use mathlib.Core.Path.{_≡_, sym, ap, _∙_}
 use mathlib.Core.Bool.{true}
 use mathlib.Core.List.{List}
@@ -9,8 +9,8 @@ use Rattle.rules.specs.SuperBlock.{Geometry}
 use Rattle.rules.specs.Index.{itemsOf, indexSound, entriesOf}
 use Rattle.rules.specs.Regions.{regionsSound}
 use Rattle.rules.specs.Paths.{pathsSound}
-use Rattle.rules.specs.Refusals.{Verdict, refused, accepted, Volume, entries, judge}
-use Rattle.rules.specs.Refusals.Laws.{judge-opens}
+use Rattle.rules.specs.Refusals.{Verdict, refused, accepted, Volume, entries, judge, judgeRead}
+use Rattle.rules.specs.Refusals.Laws.{judge-opens, read-long, read-opens}
 use Rattle.geometry.specs.View.{geometryView}
 use Rattle.geometry.specs.declared.Geometry.{Geometry as Held}
 use Rattle.index.specs.View.{Inside, itemsFrom}
@@ -71,3 +71,20 @@ module _ (s : List ℕ) (r : Judged) (told : judgedView s r ≡ judge s) where
   pub good-says : (g : Held) → r ≡ Good g → Opened s g
   unfolding judgedView
   good-says g e = sym told ∙ ap (judgedView s) e
+
+-- and one of a program
+module _ (s : List ℕ) (r : Judged) (told : judgedView s r ≡ judgeRead s) where
+  pub read-refused : (n : ℕ) → r ≡ Refused n → judgeRead s ≡ refused n
+  unfolding judgedView
+  read-refused n e = sym told ∙ ap (judgedView s) e
+
+  pub read-good : (g : Held) → r ≡ Good g → judgeRead s ≡ accepted (volumeOf s (geometryView g))
+  unfolding judgedView
+  read-good g e = sym told ∙ ap (judgedView s) e
+
+  pub read-opened : (g : Held) → r ≡ Good g → Opened s g
+  read-opened g e = read-opens s (volumeOf s (geometryView g)) (read-good g e) .1
+
+pub said-long : (s : List ℕ) → 65_536 < length s → judgedView s (Refused 1) ≡ judgeRead s
+unfolding judgedView
+said-long s h = sym (read-long s h)

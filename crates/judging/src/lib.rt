@@ -8,7 +8,7 @@ ghost use mathlib.Core.Bool.{true};
 ghost use mathlib.Core.List.{List};
 ghost use Prim.Native.Nat.{ℕ, _/_, _≤_, min};
 ghost use lib.ListN.{length};
-ghost use Rattle.rules.specs.Refusals.{judge};
+ghost use Rattle.rules.specs.Refusals.{judge, judgeRead};
 ghost use Rattle.super_block.specs.View.{SuperGood};
 ghost use Rattle.judging.specs.View.{judgedView};
 ghost use Rattle.judging.specs.Keeping.{Keeps};
@@ -103,4 +103,17 @@ pub fn judge(img: &[u8]) -> Judged
             judge_many(img, g)
         }
     }
+}
+
+// The longest image that the programs take.
+pub const LONGEST: usize = 65_536;
+
+// As the programs judge what they read.
+pub fn judge_read(img: &[u8]) -> Judged
+    ensures { λ r. ⌜ judgedView (now (img .entry)) r ≡ judgeRead (now (img .entry)) ⌝ }
+{
+    if LONGEST < img.len() {
+        return Judged::Refused(1);
+    }
+    judge(img)
 }

@@ -3,3 +3,5 @@ pub mod Entries
 pub mod Index
 pub mod Images
 pub mod Listing
+pub mod Records
+pub mod Report

@@ -1,20 +1,18 @@
 -- The listing's text, one entry at a time, and as its writers cut it.
-use Prim.Native.Nat.{ℕ, _+_, _≤_}
+use Prim.Native.Nat.{ℕ, _+_}
 use mathlib.Core.Path.{_≡_, refl, ap, _∙_}
 use mathlib.Core.Bool.{Bool, true, false}
 use mathlib.Core.List.{List, [], _∷_, _++_}
 use native.Mathlib.Omega.{arith}
-use lib.ListN.{length, take, length-append, length-take}
+use lib.ListN.{length, length-append}
 use Rattle.rules.specs.Lists.{pick, only, keepIf}
 use Rattle.rules.specs.Lists.Laws.{pick-true, pick-false}
 use Rattle.rules.specs.Fields.{signedOf}
-use Rattle.rules.specs.Fields.Laws.{length-splice}
 use Rattle.rules.specs.Index.{Entry, liveType}
 use Rattle.rules.specs.Paths.{isLive}
 use Rattle.rules.specs.Text.{text, decimal}
 use Rattle.rules.specs.Dates.{momentOf, momentText}
 use Rattle.rules.specs.Listing.{markOf, lineOf, linesOf}
-use Rattle.text.specs.Wrote.{Wrote}
 use Rattle.slots.specs.declared.Head.{Head}
 use Rattle.slots.specs.View.{headView}
 
@@ -85,9 +83,3 @@ module _ (es : List Entry) where
     pub live-next : length (only isLive es) ≡ liveOne x + length (only isLive xs)
     unfolding liveOne only
     live-next = rw next (length-keep (isLive x) x (only isLive xs))
-
--- ---- what was written from the start on can be lent
-pub wrote-counts : (s xs t : List ℕ) (end : ℕ) → length xs ≤ length s → Wrote s 0 xs t end → (end ≤ length t) × (end ≡ length (take end t))
-wrote-counts s xs t end h (e, f) =
-    let l : length t ≡ length s = ap length e ∙ length-splice s 0 xs (omega arith) in
-    (omega arith, omega (arith, length-take end t))

@@ -1,21 +1,19 @@
 -- The whole text: a volume's, as its writers cut it, and the listing by what the judgement says.
-use Prim.Native.Nat.{ℕ, _+_, _≤_, _<_}
-use mathlib.Core.Path.{_≡_, ap, _∙_}
+use Prim.Native.Nat.{ℕ, _+_}
+use mathlib.Core.Path.{_≡_, ap}
 use mathlib.Core.List.{List, [], _∷_, _++_}
 use lib.ListN.{length, length-append}
 use native.Mathlib.Omega.{arith}
-use borrow.Author.Tests.{le-leb, lt-leb}
 use Rattle.rules.specs.Lists.{only}
 use Rattle.rules.specs.Index.{Entry, volumeName}
 use Rattle.rules.specs.Regions.{heldBlocks}
 use Rattle.rules.specs.Paths.{isLive}
 use Rattle.rules.specs.Text.{text, joined, decimal}
-use Rattle.rules.specs.Refusals.{refused, entries, judge}
-use Rattle.rules.specs.Refusals.Laws.{need-true, need-false}
+use Rattle.rules.specs.Refusals.{refused, accepted, entries, judgeRead}
 use Rattle.rules.specs.Listing.{countLine, refusedLine, volumeText, listingOf}
 use Rattle.geometry.specs.View.{geometryView}
 use Rattle.geometry.specs.declared.Geometry.{Geometry as Held}
-use Rattle.judging.specs.View.{Opened, volumeOf}
+use Rattle.judging.specs.View.{volumeOf}
 use Rattle.listing.specs.Lines.{liveText}
 
 -- `live N held M`
@@ -41,15 +39,10 @@ openedText s g = nameText s ++ entriesText (entries (volumeOf s (geometryView g)
 
 -- ---- the listing
 module _ (s : List ℕ) where
-  pub listing-long : 65_536 < length s → listingOf s ≡ refusedLine 1
+  pub listing-refused : (n : ℕ) → judgeRead s ≡ refused n → listingOf s ≡ refusedLine n
   unfolding listingOf volumeText
-  listing-long h = ap (volumeText s) (need-false 1 (judge s) (lt-leb (length s) 65_536 h))
+  listing-refused n e = ap (volumeText s) e
 
-  module _ (short : length s ≤ 65_536) where
-    pub listing-refused : (n : ℕ) → judge s ≡ refused n → listingOf s ≡ refusedLine n
-    unfolding listingOf volumeText
-    listing-refused n e = ap (volumeText s) (need-true 1 (judge s) (le-leb (length s) 65_536 short) ∙ e)
-
-    pub listing-opened : (g : Held) → Opened s g → listingOf s ≡ openedText s g
-    unfolding listingOf volumeText liveText
-    listing-opened g e = ap (volumeText s) (need-true 1 (judge s) (le-leb (length s) 65_536 short) ∙ e)
+  pub listing-opened : (g : Held) → judgeRead s ≡ accepted (volumeOf s (geometryView g)) → listingOf s ≡ openedText s g
+  unfolding listingOf volumeText liveText
+  listing-opened g e = ap (volumeText s) e

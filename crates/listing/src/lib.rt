@@ -8,15 +8,15 @@ use judging::Judged;
 use slots::Head;
 use text::put_byte;
 use text::put_bytes;
+use text::put_counted;
 use text::put_moment;
 use text::put_number;
 ghost use mathlib.Core.Path.{_≡_};
 ghost use mathlib.Core.Bool.{true};
-ghost use mathlib.Core.List.{List, _++_};
+ghost use mathlib.Core.List.{List};
 ghost use Prim.Native.Nat.{ℕ, _+_, _≤_};
 ghost use lib.ListN.{length, take};
 ghost use Rattle.rules.specs.Lists.{only, All};
-ghost use Rattle.rules.specs.Text.{decimal};
 ghost use Rattle.rules.specs.Index.{runType};
 ghost use Rattle.rules.specs.Paths.{isLive};
 ghost use Rattle.rules.specs.Listing.{markOf, lineOf, refusedLine, listingOf};
@@ -29,19 +29,8 @@ ghost use Rattle.index.specs.View.{SumsFrom};
 ghost use Rattle.listing.specs.Lines.{numbersText, dateText, pathText, entryText, liveText, liveOne};
 ghost use Rattle.listing.specs.Volume.{countText, nameText, entriesText, openedText};
 
-// The longest image that is listed, and the room that its text asks for.
-pub const LONGEST: usize = 65_536;
-
+// The room that a text asks for.
 pub const ROOM: usize = 131_072;
-
-// Words, and then a number.
-fn put_counted(out: &mut [u8], at: usize, words: &[u8], n: u64) -> usize
-    requires { ⌜ at + (length (now words) + length (decimal n)) ≤ length (now out) ⌝ }
-    ensures { λ r. ⌜ Wrote (now (out .entry)) at (now (words .entry) ++ decimal n) (now (out .exit)) r ⌝ }
-{
-    let end = put_bytes(out, at, words);
-    put_number(out, end, n, 1)
-}
 
 fn put_refused(out: &mut [u8], n: u8) -> usize
     requires { ⌜ length (refusedLine n) ≤ length (now out) ⌝ }
@@ -194,10 +183,7 @@ pub fn listing(img: &[u8], out: &mut [u8]) -> usize
     ensures { λ r. ⌜ Wrote (now (out .entry)) 0 (listingOf (now (img .entry))) (now (out .exit)) r ⌝ }
     ensures lent { λ r. ⌜ (r ≤ length (now (out .exit))) × (r ≡ length (take r (now (out .exit)))) ⌝ }
 {
-    if LONGEST < img.len() {
-        return put_refused(out, 1);
-    }
-    match judging::judge(img) {
+    match judging::judge_read(img) {
         Judged::Refused(n) => put_refused(out, n),
         Judged::Good(g) => put_volume(img, g, out),
     }

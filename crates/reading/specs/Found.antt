@@ -1,4 +1,4 @@
--- Find, read and list of an entry that was found: the last steps of the calls, how its end is given, and where a file's bytes lie.
+-- Find, read and list of an entry that was found: the last steps of a read, how its end is given, and where a file's bytes lie.
 use Prim.Native.Nat.{ℕ, _+_, _*_, _≤_, _<_}
 use mathlib.Core.Path.{_≡_, ap, _∙_}
 use mathlib.Core.Bool.{true}
@@ -8,20 +8,19 @@ use lib.ListN.{length}
 use lib.Dec.{eqb, leb}
 use borrow.Author.Tests.{le-leb, lt-leb, eq-eqb, ne-eqb}
 use Rattle.rules.specs.Fields.{splice}
-use Rattle.rules.specs.Editions.{Edition, storedEnd}
+use Rattle.rules.specs.Editions.{storedEnd}
 use Rattle.rules.specs.Editions.Laws.{stored-past}
 use Rattle.rules.specs.SuperBlock.{Geometry, blockLength}
 use Rattle.rules.specs.Names.{pathGood}
-use Rattle.rules.specs.Lists.Laws.{and-true}
 use Rattle.rules.specs.Regions.{regionGood}
-use Rattle.rules.specs.Paths.{lookup, liveAt, isLive, liveFrom, nextLive}
-use Rattle.rules.specs.Paths.Laws.{live-run}
-use Rattle.rules.specs.Index.{Entry, typeFile, runType, liveType}
-use Rattle.rules.specs.Refusals.{need, accepted, Volume, entries, judge}
+use Rattle.rules.specs.Paths.{lookup, liveAt, liveFrom, nextLive}
+use Rattle.rules.specs.Paths.Laws.{from-run}
+use Rattle.rules.specs.Index.{Entry, typeFile, runType}
+use Rattle.rules.specs.Refusals.{need, accepted, entries}
 use Rattle.rules.specs.Refusals.Laws.{need-true, need-false, found-some, judge-opens, Opens}
-use Rattle.rules.specs.Outcome.{Outcome, done, conclude, noneListed, numbersOf, ListedNumbers}
+use Rattle.rules.specs.Outcome.{Outcome, done, conclude}
 use Rattle.rules.specs.Outcome.Laws.{denied, conclude-refused, conclude-accepted, volume-judged}
-use Rattle.rules.specs.Reading.{fileBytes, listed, readOf, listOf}
+use Rattle.rules.specs.Reading.{fileBytes, readOf}
 use Rattle.laws.proofs.Lists.Every.{all-first, first-says}
 use Rattle.laws.proofs.Entries.Regions.{sound-says, file-region, kind-file}
 use Rattle.laws.proofs.Images.Areas.{file-inside}
@@ -86,28 +85,8 @@ module _ (s : List ℕ) (g : Held) (opened : Opened s g) (path : List ℕ) where
   read-found e out p f =
       volume-judged 0 s out _ (volumeOf s (geometryView g)) opened ∙ ap (conclude 0 s out) (need-true 10 _ p ∙ found-some 11 _ f)
 
--- ---- list, from the entry on
-unfoldable pub listEntry : Edition → List ℕ → Entry → List ℕ → Outcome ListedNumbers
-listEntry ed s e out = conclude noneListed s out (listed ed s out (some e))
-
-module _ (ed : Edition) (s : List ℕ) (e : Entry) (out : List ℕ) where
-  pub path-short : length out < length (e .path) → listEntry ed s e out ≡ denied noneListed s out 18
-  unfolding listEntry listed
-  path-short h = conclude-refused noneListed s out 18 (need-false 18 _ (lt-leb (length (e .path)) (length out) h))
-
-  pub path-done : length (e .path) ≤ length out
-      → listEntry ed s e out ≡ done (record { found = numbersOf ed e; pathLength = length (e .path) }) s (splice out 0 (e .path))
-  unfolding listEntry listed
-  path-done h = conclude-accepted noneListed s out _ (need-true 18 _ (le-leb (length (e .path)) (length out) h))
-
-pub list-found : (s : List ℕ) (v : Volume) → judge s ≡ accepted v → (slot : ℕ) (e : Entry) (out : List ℕ) → nextLive slot (entries v) ≡ some e
-    → (ed : Edition) → ed ≡ v .geometry .edition → listOf s slot out ≡ listEntry ed s e out
-unfolding listOf listEntry
-list-found s v opens slot e out f ed of = rw of (volume-judged noneListed s out _ v opens ∙ ap (λ x. conclude noneListed s out (listed (v .geometry .edition) s out x)) f)
-
+-- ---- list
 -- what is live has a run
 pub next-run : (slot : ℕ) (es : List Entry) (e : Entry) → nextLive slot es ≡ some e → runType (e .kind) ≡ true
-unfolding nextLive liveFrom isLive
-next-run slot es e f =
-    let p = first-says (liveFrom slot) es e f .passes in
-    live-run (e .kind) (and-true (liveType (e .kind)) (leb slot (e .slot)) p .0)
+unfolding nextLive
+next-run slot es e f = from-run slot e (first-says (liveFrom slot) es e f .passes)

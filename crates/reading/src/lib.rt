@@ -23,13 +23,14 @@ ghost use Rattle.rules.specs.Outcome.{noVolume, noEntry, noneListed, numbersOf}
 ghost use Rattle.rules.specs.Outcome.Laws.{denied};
 ghost use Rattle.rules.specs.Reading.{volumeNumbers};
 ghost use Rattle.rules.specs.Index.{volumeName, runType};
+ghost use Rattle.rules.specs.Reading.Laws.{listEntry};
 ghost use Rattle.contracts.specs.Contracts.{OpensVolume, Finds, Lists, Reads, volumeView, volumeAnswer, entryView, entryAnswer, contentView, listedView, listedAnswer};
 ghost use Rattle.editions.specs.View.{editionView};
 ghost use Rattle.geometry.specs.View.{geometryView};
 ghost use Rattle.slots.specs.View.{headView, HeadIn};
 ghost use Rattle.paths.specs.View.{Searched, FoundOf};
 ghost use Rattle.judging.specs.View.{Opened, volumeOf};
-ghost use Rattle.reading.specs.Found.{FileIn, readEntry, listEntry};
+ghost use Rattle.reading.specs.Found.{FileIn, readEntry};
 
 // ---- open
 

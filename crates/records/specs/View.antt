@@ -1,5 +1,5 @@
 -- A record as its writers cut it, and what was put into an output.
-use Prim.Native.Nat.{ℕ, zero, suc, _+_, _-_, _≤_, _<_}
+use Prim.Native.Nat.{ℕ, _+_, _-_, _≤_, _<_}
 use mathlib.Core.Path.{_≡_, refl, sym, ap, _∙_}
 use mathlib.Core.Bool.{true, false}
 use mathlib.Core.List.{List, [], _∷_, _++_, append-assoc}
@@ -28,7 +28,7 @@ use Rattle.index.specs.Steps.{entriesFrom}
 use Rattle.text.specs.Wrote.{Wrote, ToWrite, left-none, left-next}
 use Rattle.reading.specs.Found.{end-given}
 use Rattle.records.specs.declared.Put.{Put}
-use Rattle.records.specs.Packed.{recordLength, record-length, stamp-length, packed, packed-none, packed-full, packed-next, packed-fits, packed-bare, recordsDone, records-none, records-left, records-some}
+use Rattle.laws.proofs.Records.Packed.{recordLength, record-length, stamp-length, packed, packed-none, packed-full, packed-next, packed-fits, packed-bare, recordsDone, records-none, records-left, records-some}
 
 -- ---- a record's parts
 -- slot, kind and start
@@ -135,7 +135,7 @@ module _ (s : List ℕ) (c : Cursor) (slot : ℕ) (out : List ℕ) where
           let room = putting-room in
           let rest : length out - end - recordLength x ≡ length out - end′ = omega (arith, l, w .1) in
           let same : toCome d end next ≡ withRecord bs (toCome d′ end′ (x .slot + 1)) =
-              packed-next _ _ _ _ x _ here fits ∙ ap (λ (m : ℕ). withRecord bs (packed (editionView (c .edition)) m (x .slot + 1) (only (liveFrom slot) (entriesFrom s d′)))) rest in
+          packed-next _ _ _ _ x _ here fits ∙ ap (λ (m : ℕ). withRecord bs (packed (editionView (c .edition)) m (x .slot + 1) (only (liveFrom slot) (entriesFrom s d′)))) rest in
           record {
             writes = left-next _ _ _ _ _ _ _ _ bs _ (ap (λ (g : Recorded). g .bytes) same) (omega (arith, packed-fits (editionView (c .edition)) (length out - end) next (only (liveFrom slot) (entriesFrom s d)), p .writes, p .inside)) long (p .writes) w;
             counts = omega (arith, p .counts, ap (λ (g : Recorded). g .count) same);
@@ -146,10 +146,6 @@ module _ (s : List ℕ) (c : Cursor) (slot : ℕ) (out : List ℕ) where
           }
 
 -- ---- what is answered
-pos : (n : ℕ) → (n ≡ 0 → ⊥) → 0 < n
-pos zero h = absurd (h refl)
-pos (suc n) h = omega arith
-
 module _ (s : List ℕ) (g : Recorded) (out : List ℕ) (put : Put) (after : List ℕ) (p : PutOf g out put after) (r : Records) where
   done-is : r .refusal ≡ 0 → r .count ≡ put .count → r .length ≡ put .end → r .next ≡ put .next .0 → recordsView s after r ≡ recordsDone s out g
   done-is z i j k =
@@ -160,7 +156,7 @@ module _ (s : List ℕ) (g : Recorded) (out : List ℕ) (put : Put) (after : Lis
   told-left f z i j k = done-is z i j k ∙ sym (records-left s out g (p .ended ∙ pick-false 18 0 f))
 
   pub told-some : (put .count ≡ 0 → ⊥) → r .refusal ≡ 0 → r .count ≡ put .count → r .length ≡ put .end → r .next ≡ put .next .0 → recordsView s after r ≡ recordsOutcome s out g
-  told-some n z i j k = done-is z i j k ∙ sym (records-some s out g (pos (g .count) (λ e. n (p .count ∙ e))))
+  told-some n z i j k = done-is z i j k ∙ sym (records-some s out g (let d : g .count ≡ 0 → ⊥ = λ e. n (p .count ∙ e) in omega (arith, d)))
 
   pub told-none : put .full ≡ true → put .count ≡ 0 → recordsView s out r ≡ denied noRecords s out 18 → recordsView s after r ≡ recordsOutcome s out g
   told-none f z e =

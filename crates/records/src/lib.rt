@@ -26,7 +26,7 @@ ghost use Rattle.index.specs.View.{SumsFrom};
 ghost use Rattle.index.specs.Steps.{Walks};
 ghost use Rattle.text.specs.Wrote.{Wrote};
 ghost use Rattle.judging.specs.View.{Opened};
-ghost use Rattle.records.specs.Packed.{recordLength};
+ghost use Rattle.laws.proofs.Records.Packed.{recordLength};
 ghost use Rattle.records.specs.View.{placeBytes, extentBytes, PutOf, PutAll};
 
 // The bytes of a record before its path: seven numbers.

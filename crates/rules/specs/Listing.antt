@@ -9,7 +9,7 @@ use Rattle.rules.specs.Fields.{splice}
 use Rattle.rules.specs.Index.{Entry, fileType, volumeName}
 use Rattle.rules.specs.Regions.{heldBlocks}
 use Rattle.rules.specs.Paths.{isLive}
-use Rattle.rules.specs.Refusals.{Verdict, refused, accepted, need, Volume, entries, judge}
+use Rattle.rules.specs.Refusals.{Verdict, refused, accepted, need, Volume, entries, judgeRead}
 use Rattle.rules.specs.Outcome.{Outcome, done, conclude}
 use Rattle.rules.specs.Text.{text, joined, decimal}
 use Rattle.rules.specs.Dates.{momentOf, momentText}
@@ -42,9 +42,8 @@ unfoldable pub volumeText : List ℕ → Verdict Volume → List ℕ
 volumeText s (refused n) = refusedLine n
 volumeText s (accepted v) = (volumeName s ++ text "\n") ++ (linesOf (only isLive (entries v)) ++ countLine (entries v))
 
--- more than 65,536 bytes are refusal 1
 unfoldable pub listingOf : List ℕ → List ℕ
-listingOf s = volumeText s (need (leb (length s) 65_536) 1 (judge s))
+listingOf s = volumeText s (judgeRead s)
 
 -- ---- the text as a call: its length, and the text at the start of an output that any text fits, else 18
 unfoldable pub textOf : List ℕ → List ℕ → Outcome ℕ

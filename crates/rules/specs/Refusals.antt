@@ -5,6 +5,7 @@ use mathlib.Core.Bool.{Bool, true, false}
 use mathlib.Core.List.{List}
 use mathlib.Core.Option.{Option, none, some}
 use lib.ListN.{length}
+use lib.Dec.{leb}
 use Rattle.rules.specs.Lists.{pick, part, eqList}
 use Rattle.rules.specs.Fields.{byteAt, checks}
 use Rattle.rules.specs.Editions.{Edition, edition10, edition110, versionRead}
@@ -76,6 +77,10 @@ judgeGeometry s = need (lengthGood (length s)) 1 (needFound (editionOf s) 2 (jud
 
 unfoldable pub judge : List ℕ → Verdict Volume
 judge s = andThen (judgeGeometry s) (λ g. judgeIndex s g (itemsOf s g))
+
+-- as the programs judge what they read: more than 65,536 bytes are refusal 1
+unfoldable pub judgeRead : List ℕ → Verdict Volume
+judgeRead s = need (leb (length s) 65_536) 1 (judge s)
 
 -- ---- no image opens as both editions, whichever magic were sought first
 -- as an image would be judged if only this edition were known

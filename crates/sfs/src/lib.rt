@@ -5,7 +5,8 @@ use contracts::Entry;
 use contracts::Listed;
 use contracts::Records;
 use contracts::Volume;
-ghost use Rattle.contracts.specs.Contracts.{TellsApi, Formats, OpensVolume, Finds, Lists, ListsAll, Reads, CreatesFile, CreatesDirectory, Deletes, Restores, Reclaims, WritesListing};
+ghost use mathlib.Core.Path.{_≡_};
+ghost use Rattle.contracts.specs.Contracts.{TellsApi, Formats, OpensVolume, Finds, Lists, ListsAll, Reads, CreatesFile, CreatesDirectory, Deletes, Restores, Reclaims, WritesListing, CountsImage, WritesReport};
 
 // The number of the interface, raised whenever a struct or an argument changes.
 const API: u32 = 1;
@@ -108,20 +109,57 @@ pub extern "C" fn sfs_reclaim(image: &mut [u8], stamp: i64) -> u32
     erasing::reclaim(image, stamps::to_bits(stamp))
 }
 
+// ---- texts
+
+fn too_short() -> Content
+    ensures { λ r. ⌜ (r .refusal ≡ 18) × (r .length ≡ 0) ⌝ }
+{
+    Content {
+        refusal: 18,
+        length: 0,
+    }
+}
+
+fn written(n: usize) -> Content
+    ensures { λ r. ⌜ (r .refusal ≡ 0) × (r .length ≡ n) ⌝ }
+{
+    Content {
+        refusal: 0,
+        length: n as u64,
+    }
+}
+
 // The listing program's text, in an output that any text fits.
 #[no_mangle]
 pub extern "C" fn sfs_listing(image: &[u8], out: &mut [u8]) -> Content
     ensures { λ r. ⌜ WritesListing (now (image .entry)) (now (out .entry)) r (now (out .exit)) ⌝ }
 {
     if out.len() < listing::ROOM {
-        return Content {
-            refusal: 18,
-            length: 0,
-        };
+        return too_short();
     }
     let n = listing::listing(image, out);
-    Content {
-        refusal: 0,
-        length: n as u64,
+    written(n)
+}
+
+// Counts an image in a report.
+#[no_mangle]
+pub extern "C" fn sfs_report_add(image: &[u8], report: &mut [u64]) -> u32
+    ensures { λ r. ⌜ CountsImage (now (image .entry)) (now (report .entry)) r (now (report .exit)) ⌝ }
+{
+    report::count_image(image, report)
+}
+
+// The text of a report, in an output that any text fits.
+#[no_mangle]
+pub extern "C" fn sfs_report_text(report: &[u64], out: &mut [u8]) -> Content
+    ensures { λ r. ⌜ WritesReport (now (report .entry)) (now (out .entry)) r (now (out .exit)) ⌝ }
+{
+    if report.len() < report::NUMBERS {
+        return too_short();
     }
+    if out.len() < report::ROOM {
+        return too_short();
+    }
+    let n = report::put_numbers(report, out);
+    written(n)
 }

@@ -3,9 +3,9 @@ use Prim.Native.Nat.{ℕ, _+_, _≤_}
 use mathlib.Core.Path.{_≡_, sym, ap, _∙_}
 use mathlib.Core.List.{List, [], _++_}
 use native.Mathlib.Omega.{arith}
-use lib.ListN.{length, length-append}
+use lib.ListN.{length, take, length-append, length-take}
 use Rattle.rules.specs.Fields.{splice}
-use Rattle.rules.specs.Fields.Laws.{splice-nil, splice-splice}
+use Rattle.rules.specs.Fields.Laws.{splice-nil, splice-splice, length-splice}
 
 -- s became t, with bs from `at` on; `end` is behind them
 abbrev pub Wrote : List ℕ → ℕ → List ℕ → List ℕ → ℕ → Type 0
@@ -35,3 +35,9 @@ pub left-next : (s : List ℕ) (o : ℕ) (xs t : List ℕ) (at : ℕ) (ys u : Li
 left-next s o xs t at ys u end zs ws e f k (l, n, w) (v, m) =
     let lengths : length ys ≡ length zs + length ws = ap length e ∙ length-append zs ws in
     (omega arith, omega arith, rw (v, m) (splice-splice t at zs ws (omega arith) ∙ (rw e at w)))
+
+-- ---- what was written from the start on can be lent
+pub wrote-counts : (s xs t : List ℕ) (end : ℕ) → length xs ≤ length s → Wrote s 0 xs t end → (end ≤ length t) × (end ≡ length (take end t))
+wrote-counts s xs t end h (e, f) =
+    let l : length t ≡ length s = ap length e ∙ length-splice s 0 xs (omega arith) in
+    (omega arith, omega (arith, length-take end t))

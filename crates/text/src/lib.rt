@@ -1,7 +1,7 @@
 // Text written into a lent output. Each function writes from a place on and returns the place behind what it wrote.
 
 ghost use mathlib.Core.Path.{_≡_};
-ghost use mathlib.Core.List.{[], _∷_};
+ghost use mathlib.Core.List.{[], _∷_, _++_};
 ghost use Prim.Native.Nat.{_+_, _-_, _^_, _≤_, _<_};
 ghost use lib.ListN.{length};
 ghost use lib.IntN.{natAbs};
@@ -54,6 +54,15 @@ pub fn put_number(out: &mut [u8], at: usize, n: u64, w: u64) -> usize
     }
     let end = put_number(out, at, n / 10, one_less(w));
     put_byte(out, end, last)
+}
+
+// Words, and then a number.
+pub fn put_counted(out: &mut [u8], at: usize, words: &[u8], n: u64) -> usize
+    requires { ⌜ at + (length (now words) + length (decimal n)) ≤ length (now out) ⌝ }
+    ensures { λ r. ⌜ Wrote (now (out .entry)) at (now (words .entry) ++ decimal n) (now (out .exit)) r ⌝ }
+{
+    let end = put_bytes(out, at, words);
+    put_number(out, end, n, 1)
 }
 
 // How far from year 0; `!year` is -1 - year, which needs no room.

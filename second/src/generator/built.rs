@@ -31,6 +31,14 @@ pub fn scene(w: &mut Writer) {
     if w.rng.chance(10) {
         return nearly_full_index(w);
     }
+    let image = some_image(w);
+    w.put(format!("image {}", image.len()));
+    w.poke_back(&image);
+    probe(w);
+}
+
+/// A volume with entries of every kind, at times with a fault.
+pub fn some_image(w: &mut Writer) -> Vec<u8> {
     let mut builder = Builder::new(&mut w.rng, w.edition);
     while builder.slot < builder.geometry.slots() - 1 {
         builder.add(&mut w.rng);
@@ -38,9 +46,7 @@ pub fn scene(w: &mut Writer) {
     if w.rng.chance(25) {
         builder.spoil(&mut w.rng);
     }
-    w.put(format!("image {}", builder.image.len()));
-    w.poke_back(&builder.image);
-    probe(w);
+    builder.image
 }
 
 /// An index area close to its largest size and full, so that only growth could help.

@@ -81,6 +81,20 @@ pub fn scene(w: &mut Writer) {
     }
 }
 
+/// Such a volume that is no longer than a listing or a report takes; every second one has a fault.
+pub fn some_image(w: &mut Writer) -> Vec<u8> {
+    loop {
+        let (mut crowd, _) = Crowd::new(&mut w.rng, w.edition);
+        if crowd.builder.geometry.image > LISTED {
+            continue;
+        }
+        if w.rng.chance(50) {
+            crowd.plant(&mut w.rng);
+        }
+        return crowd.builder.image;
+    }
+}
+
 /// Pokes the super-block and the index area; the blocks between keep what they have.
 fn lay(w: &mut Writer, from: &[u8], geometry: &Geometry) {
     let mut wanted = w.image().to_vec();

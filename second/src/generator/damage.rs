@@ -46,6 +46,18 @@ pub fn scene(w: &mut Writer) {
     }
 }
 
+/// A volume and so many damages of it, one at a time, each of them looked at so.
+pub fn damages(w: &mut Writer, rounds: u64, look: fn(&mut Writer)) {
+    let block = 256 << w.rng.below(3);
+    let Some(healthy) = volume(w, block) else { return };
+    look(w);
+    for _ in 0..rounds {
+        damage(w, &healthy);
+        look(w);
+        w.poke_back(&healthy.image);
+    }
+}
+
 /// A volume with every kind of entry, among them an unusable one poked in.
 fn volume(w: &mut Writer, block: u64) -> Option<Healthy> {
     let total = least_reserved(block) + 12 + w.rng.below(8);

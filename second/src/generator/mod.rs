@@ -10,10 +10,14 @@ mod editions;
 mod history;
 mod lists;
 mod names;
+mod reports;
 mod restore;
 mod sums;
 mod tails;
 mod text;
+mod volumes;
+
+pub use volumes::Volumes;
 
 use crate::edition::{Edition, SUM_AT};
 use crate::index::{self, Entry, COUNT_AT};
@@ -38,7 +42,7 @@ const fn family(name: &'static str, weight: u64, newer: u64, scene: Scene) -> Fa
     Family { name, weight, newer, scene }
 }
 
-const FAMILIES: [Family; 11] = [
+const FAMILIES: [Family; 12] = [
     family("history", 40, 35, history::scene),
     family("damage", 20, 35, damage::scene),
     family("built", 20, 35, built::scene),
@@ -51,7 +55,13 @@ const FAMILIES: [Family; 11] = [
     family("crowded", 6, 35, crowded::scene),
     family("sums", 24, 100, sums::scene),
     family("editions", 16, 65, editions::scene),
+    family("report", 10, 50, reports::scene),
 ];
+
+/// In a hundred calls of a scene, how many have report calls behind them; and the longest image that is so counted, as
+/// digests of longer ones are slow.
+const REPORTED: u64 = 3;
+const MOST_REPORTED: u64 = 1 << 22;
 
 /// A script of about `count` calls, of one family or mixed; nothing when there is no such family.
 pub fn script(seed: u64, count: u64, kind: Option<&str>) -> Option<String> {
@@ -91,6 +101,8 @@ pub struct Known {
 /// Writes a script while following it.
 pub struct Writer {
     pub rng: Xorshift,
+    /// For the reports between the calls of a scene, so that the scene is the same with and without them.
+    aside: Xorshift,
     /// The edition of the scene: what its volumes are formatted in or built in.
     pub edition: Edition,
     session: Session,
@@ -105,8 +117,8 @@ impl Writer {
         for _ in 0..8 {
             rng.step();
         }
-        let edition = Edition::default();
-        Writer { rng, edition, session: Session::without_digests(), script: String::new(), serial: 0 }
+        let (aside, edition) = (Xorshift::new(rng.clone().step()), Edition::default());
+        Writer { rng, aside, edition, session: Session::without_digests(), script: String::new(), serial: 0 }
     }
 
     fn choose(&mut self, kind: Option<&str>) -> &'static Family {
@@ -133,13 +145,21 @@ impl Writer {
         self.session.calls
     }
 
-    /// Adds a line and gives the refusal number of the last call so far.
+    /// Adds a line, behind a call at times a report, and gives the refusal number of the last call so far.
     pub fn put(&mut self, line: String) -> u8 {
-        // A line the interpreter cannot read stays in the script, where the tests find it.
-        let _ = self.session.execute(&line);
-        self.script.push_str(&line);
-        self.script.push('\n');
+        let calls = self.calls();
+        self.add(&line);
+        if self.calls() > calls && self.length() <= MOST_REPORTED && self.aside.chance(REPORTED) {
+            reports::between(&mut self.aside).iter().for_each(|line| self.add(line));
+        }
         self.session.last
+    }
+
+    fn add(&mut self, line: &str) {
+        // A line the interpreter cannot read stays in the script, where the tests find it.
+        let _ = self.session.execute(line);
+        self.script.push_str(line);
+        self.script.push('\n');
     }
 
     pub fn image(&self) -> &[u8] {

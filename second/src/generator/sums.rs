@@ -32,6 +32,17 @@ pub fn scene(w: &mut Writer) {
     }
 }
 
+/// A volume and so many damages of it, one at a time, each of them looked at so.
+pub fn damages(w: &mut Writer, rounds: u64, look: fn(&mut Writer)) {
+    let Some(whole) = volume(w) else { return };
+    look(w);
+    for _ in 0..rounds {
+        damage(w, &whole);
+        look(w);
+        w.poke_back(&whole.image);
+    }
+}
+
 /// A good volume, and where everything lies in it.
 struct Whole {
     image: Vec<u8>,
@@ -291,7 +302,7 @@ fn older_super_block(w: &mut Writer, magic: usize) {
 }
 
 /// Any other version, or the right one, mostly with a right checksum.
-fn version(w: &mut Writer) {
+pub fn version(w: &mut Writer) {
     let any = w.rng.byte();
     let version = w.rng.pick(&[0, 0x0F, 0x10, 0x11, 0x19, 0x1A, 0x1B, 0x20, 0x9A, 0xFF, any]);
     w.poke(w.edition.super_field(VERSION), &[version]);
@@ -301,7 +312,7 @@ fn version(w: &mut Writer) {
 }
 
 /// A size of the super-block, or its checksum, a little too high or too low.
-fn size(w: &mut Writer) {
+pub fn size(w: &mut Writer) {
     let fields = [(DATA, 8), (INDEX, 8), (TOTAL, 8), (RESERVED, 4), (BLOCK_SIZE, 1), (CHECKSUM, 1)];
     let (field, width) = w.rng.pick(&fields);
     let at = w.edition.super_field(field);
@@ -411,7 +422,7 @@ fn create(w: &mut Writer) -> u8 {
 }
 
 /// An index laid slot by slot, with deleted heads whose runs take in whatever comes behind them.
-fn tiled(w: &mut Writer) {
+pub fn some_image(w: &mut Writer) -> Vec<u8> {
     let mut builder = Builder::new(&mut w.rng, w.edition);
     let last = builder.geometry.slots() - 1;
     let mut heads = Vec::new();
@@ -433,8 +444,13 @@ fn tiled(w: &mut Writer) {
             builder.break_sum(&mut w.rng, at);
         }
     }
-    w.put(format!("image {}", builder.image.len()));
-    w.poke_back(&builder.image);
+    builder.image
+}
+
+fn tiled(w: &mut Writer) {
+    let image = some_image(w);
+    w.put(format!("image {}", image.len()));
+    w.poke_back(&image);
     for _ in 0..3 {
         probe(w);
     }

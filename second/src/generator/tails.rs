@@ -49,6 +49,13 @@ pub fn scene(w: &mut Writer) {
     }
 }
 
+/// A volume of such names.
+pub fn some_image(w: &mut Writer) -> Vec<u8> {
+    let mut stage = Stage::new(&mut w.rng, w.edition);
+    stage.fill(&mut w.rng);
+    stage.builder.image
+}
+
 impl Stage {
     fn new(rng: &mut Xorshift, edition: Edition) -> Self {
         let block = 256 << rng.below(3);

@@ -6,22 +6,22 @@ use mathlib.Core.List.{List, []}
 use mathlib.Core.Option.{Option, none, some}
 use native.Mathlib.Omega.{arith}
 use Rattle.rules.specs.SuperBlock.{writable}
-use Rattle.rules.specs.Refusals.{Verdict, refused, accepted, need, needFound, andThen, Volume, judgeIndex, judgeSuper, judgeGeometry, judge}
+use Rattle.rules.specs.Refusals.{Verdict, refused, accepted, need, needFound, andThen, Volume, judgeIndex, judgeSuper, judgeGeometry, judge, judgeRead}
 use Rattle.rules.specs.Refusals.Laws.{then-next}
 use Rattle.rules.specs.Outcome.{done, conclude, onVolume}
 use Rattle.rules.specs.Writing.{Written}
 
--- ---- the refusals of opening have one digit, and none is 0
+-- ---- the refusals of opening are 1 to 8
 abbrev pub Low : {A : Type 0} → Verdict A → Type 0
-Low (refused n) = (0 < n) × (n < 10)
+Low (refused n) = (0 < n) × (n < 9)
 Low (accepted x) = Unit {0}
 
-pub need-low : {A : Type 0} (b : Bool) (n : ℕ) (v : Verdict A) → (0 < n) × (n < 10) → Low v → Low (need b n v)
+pub need-low : {A : Type 0} (b : Bool) (n : ℕ) (v : Verdict A) → (0 < n) × (n < 9) → Low v → Low (need b n v)
 unfolding need
 need-low true n v h l = l
 need-low false n v h l = h
 
-found-low : {A B : Type 0} (o : Option B) (n : ℕ) (next : B → Verdict A) → (0 < n) × (n < 10) → ((x : B) → Low (next x)) → Low (needFound o n next)
+found-low : {A B : Type 0} (o : Option B) (n : ℕ) (next : B → Verdict A) → (0 < n) × (n < 9) → ((x : B) → Low (next x)) → Low (needFound o n next)
 unfolding needFound
 found-low none n next h l = h
 found-low (some x) n next h l = l x
@@ -44,6 +44,10 @@ judge-low s =
     need-low _ 6 _ (omega arith, omega arith)
     (need-low _ 7 _ (omega arith, omega arith)
     (need-low _ 8 _ (omega arith, omega arith) tt)))
+
+pub read-low : (s : List ℕ) → Low (judgeRead s)
+unfolding judgeRead
+read-low s = need-low _ 1 _ (omega arith, omega arith) (judge-low s)
 
 -- ---- what a verdict of a writing call comes to
 abbrev pub ending : List ℕ → Verdict Written → Written

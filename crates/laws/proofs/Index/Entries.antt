@@ -195,3 +195,17 @@ pub every-entry : (P : Entry → Type 0) (s : List ℕ) (g : Geometry) → ((lef
     → ((k : ℕ) (a : List ℕ) (e : Entry) → IsUnusable (g .edition) k a e → P e) → All P (entriesOf (itemsOf s g))
 unfolding itemsOf walkAll
 every-entry P s g run unusable = of-walk (g .edition) P run unusable _ _ 1 _
+
+-- they are no more than the steps
+few-followed : (n : ℕ) (i : Item) (rest : ℕ → List Item) → ((m : ℕ) → length (entriesOf (rest m)) ≤ n) → length (entriesOf (followed i rest)) ≤ suc n
+unfolding followed entriesOf
+few-followed n (unused k) rest h = omega (arith, h 1)
+few-followed n (stale k m) rest h = omega (arith, h m)
+few-followed n (entry e) rest h = omega (arith, h (e .slots))
+few-followed n (fault k) rest h = omega arith
+
+pub few-entries : (ed : Edition) (n left k : ℕ) (a : List ℕ) → length (entriesOf (walk ed n left k a)) ≤ n
+unfolding walk entriesOf
+few-entries ed zero left k a = omega arith
+few-entries ed (suc n) zero k a = omega arith
+few-entries ed (suc n) (suc left) k a = few-followed n (itemAt ed (suc left) k a) _ (λ m. few-entries ed n (suc left - m) (k + m) (drop (slotBytes * m) a))

@@ -1,23 +1,20 @@
 -- THE LISTING FITS: of any image, what the listing program writes has at most 131,072 bytes. Assumes nothing.
 use Prim.Native.Nat.{ℕ, _+_, _*_, _^_, _≤_, _<_}
-use mathlib.Core.Bool.{Bool}
 use mathlib.Core.List.{List, [], _∷_}
 use mathlib.Core.Path.{_≡_, refl, ap, _∙_}
 use native.Mathlib.Omega.{arith}
-use lib.Dec.{leb}
 use lib.ListN.{length, length-append, drop}
-use borrow.Author.Tests.{leb-true}
 use Rattle.rules.specs.Lists.{only, sum}
-use Rattle.rules.specs.Lists.Laws.{sum-parts}
 use Rattle.rules.specs.Fields.{Bytes}
 use Rattle.rules.specs.Text.Laws.{decimal-length}
 use Rattle.rules.specs.Index.{Entry, innerSlots, itemAt, itemsOf, slotAt, fileType, walkAll}
 use Rattle.rules.specs.Regions.{blocksOf, heldBlocks}
 use Rattle.rules.specs.Paths.{isLive}
-use Rattle.rules.specs.Refusals.{Verdict, refused, accepted, need, Volume, entries, judge}
-use Rattle.rules.specs.Refusals.Laws.{Opens, judge-opens, need-accepted}
+use Rattle.rules.specs.Refusals.{Verdict, refused, accepted, Volume, entries, judgeRead}
+use Rattle.rules.specs.Refusals.Laws.{Opens, judge-opens, read-opens}
 use Rattle.rules.specs.Listing.{lineOf, linesOf, countLine, refusedLine, volumeText, listingOf}
-use Rattle.laws.proofs.Images.Accepted.{Low, need-low, judge-low}
+use Rattle.laws.proofs.Lists.Every.{sum-only}
+use Rattle.laws.proofs.Images.Accepted.{Low, read-low}
 use Rattle.laws.proofs.Index.Slots.{inner-slots}
 use Rattle.laws.proofs.Index.Ends.{name-fits}
 use Rattle.laws.proofs.Listing.Weights.{bytes-drop, Weighs, sum-walk}
@@ -33,10 +30,6 @@ count-sum : (es : List Entry) → length es ≡ sum (λ e. 1) es
 unfolding sum
 count-sum [] = refl
 count-sum (e ∷ es) = omega (arith, count-sum es)
-
--- what is chosen sums to no more than the whole
-sum-only : (f : Entry → ℕ) (p : Entry → Bool) (es : List Entry) → sum f (only p es) ≤ sum f es
-sum-only f p es = omega (arith, sum-parts f p es)
 
 -- ---- refusals
 refused-fits : (s : List ℕ) (n : ℕ) → n < 10 → length (volumeText s (refused n)) ≤ 10
@@ -83,10 +76,10 @@ module _ (s : List ℕ) (v : Volume) (bytes : Bytes s) (o : Opens s v) (small : 
 -- one of more than 65,536 bytes is refused
 pub listing-fits : (s : List ℕ) → Bytes s → length (listingOf s) ≤ 131_000
 unfolding listingOf
-listing-fits s bytes = by (need (leb (length s) 65_536) 1 (judge s)) refl (need-low (leb (length s) 65_536) 1 (judge s) (omega arith, omega arith) (judge-low s))
+listing-fits s bytes = by (judgeRead s) refl (read-low s)
   where
-    by : (r : Verdict Volume) → need (leb (length s) 65_536) 1 (judge s) ≡ r → Low r → length (volumeText s r) ≤ 131_000
-    by (refused n) e l = omega (arith, refused-fits s n (l .1))
+    by : (r : Verdict Volume) → judgeRead s ≡ r → Low r → length (volumeText s r) ≤ 131_000
+    by (refused n) e l = omega (arith, refused-fits s n (omega (arith, l .1)))
     by (accepted v) e l =
-        let h = need-accepted (leb (length s) 65_536) 1 (judge s) e in
-        volume-fits s v bytes (judge-opens s v (h .1)) (leb-true (length s) 65_536 (h .0))
+        let h = read-opens s v e in
+        volume-fits s v bytes (judge-opens s v (h .1)) (h .0)

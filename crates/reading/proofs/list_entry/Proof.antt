@@ -2,7 +2,7 @@ use mathlib.Core.Path.{sym, _∙_}
 use denote.Ref.{now}
 use Rattle.slots.specs.View.{headView}
 use Rattle.contracts.specs.Contracts.Laws.{listed-outcome}
-use Rattle.reading.specs.Found.{path-short, path-done}
+use Rattle.rules.specs.Reading.Laws.{path-short, path-done}
 use borrow.Author.Needs.{needs}
 use Rattle.reading.proofs.list_entry.Statement.{statement}
 use Rattle.reading.proofs.list_entry.Tie as tie

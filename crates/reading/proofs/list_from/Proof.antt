@@ -4,13 +4,13 @@ use denote.Ref.{now}
 use Rattle.rules.specs.Paths.{liveFrom, nextLive}
 use Rattle.rules.specs.Refusals.{entries}
 use Rattle.rules.specs.Outcome.{done}
-use Rattle.rules.specs.Reading.Laws.{list-none}
+use Rattle.rules.specs.Reading.Laws.{list-none, list-found}
 use Rattle.editions.specs.View.{editionView}
 use Rattle.geometry.specs.View.{geometryView}
 use Rattle.slots.specs.View.{headView}
 use Rattle.paths.specs.View.{Hits, HitAt, hit-nothing, hit-entry, hit-first, hit-of}
 use Rattle.judging.specs.View.{volumeOf, opened-super, opened-walks, opened-entries}
-use Rattle.reading.specs.Found.{list-found, next-run}
+use Rattle.reading.specs.Found.{next-run}
 use borrow.Author.Needs.{needs}
 use Rattle.reading.proofs.list_from.Statement.{statement}
 use Rattle.reading.proofs.list_from.Tie as tie

@@ -2,7 +2,7 @@ use Prim.Native.Nat.{_-_}
 use mathlib.Core.Path.{ap, _∙_}
 use lib.ListN.{length}
 use lib.Dec.{leb}
-use Rattle.records.specs.Packed.{fits-no, fits-behind}
+use Rattle.laws.proofs.Records.Packed.{fits-no, fits-behind}
 use borrow.Author.Needs.{needs}
 use Rattle.records.proofs.fits.Statement.{statement}
 use Rattle.records.proofs.fits.Tie as tie

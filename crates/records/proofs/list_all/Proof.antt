@@ -1,6 +1,6 @@
 use mathlib.Core.Path.{sym, _∙_}
 use Rattle.judging.specs.View.{refused-says, good-says}
-use Rattle.records.specs.Packed.{list-all-refused}
+use Rattle.laws.proofs.Records.Packed.{list-all-refused}
 use borrow.Author.Needs.{needs}
 use Rattle.records.proofs.list_all.Statement.{statement}
 use Rattle.records.proofs.list_all.Tie as tie

@@ -10,7 +10,7 @@ use Rattle.rules.specs.Paths.{liveFrom}
 use Rattle.rules.specs.Records.{recordsOutcome}
 use Rattle.editions.specs.View.{editionView}
 use Rattle.judging.specs.View.{opened-super, opened-walks, opened-entries}
-use Rattle.records.specs.Packed.{packed, list-all-opened}
+use Rattle.laws.proofs.Records.Packed.{packed, list-all-opened}
 use borrow.Author.Needs.{needs}
 use Rattle.records.proofs.list_all_from.Statement.{statement}
 use Rattle.records.proofs.list_all_from.Tie as tie

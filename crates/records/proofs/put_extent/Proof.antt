@@ -2,7 +2,7 @@ use native.Mathlib.Omega.{arith}
 use Rattle.rules.specs.Fields.{signedOf}
 use Rattle.rules.specs.Fields.Laws.{length-leBytes}
 use Rattle.text.specs.Wrote.{wrote-both}
-use Rattle.records.specs.Packed.{stamp-length}
+use Rattle.laws.proofs.Records.Packed.{stamp-length}
 use borrow.Author.Needs.{needs}
 use Rattle.records.proofs.put_extent.Statement.{statement}
 use Rattle.records.proofs.put_extent.Tie as tie

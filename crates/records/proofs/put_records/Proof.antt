@@ -17,7 +17,7 @@ use Rattle.index.specs.View.{SumsFrom, Behind, behind-itself, behind-on, sums-b
 use Rattle.index.specs.Steps.{Walks, entriesFrom}
 use Rattle.text.specs.Wrote.{Wrote}
 use Rattle.paths.specs.View.{HitAt, hit-none, hit-entry, hit-of}
-use Rattle.records.specs.Packed.{recordLength, chosen-run}
+use Rattle.laws.proofs.Records.Packed.{recordLength, chosen-run}
 use Rattle.records.specs.View.{Putting, putting-first, putting-none, putting-full, putting-room, putting-ahead, putting-next}
 use borrow.Author.Needs.{needs}
 use Rattle.records.proofs.put_records.Statement.{statement}

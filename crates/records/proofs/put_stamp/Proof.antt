@@ -2,7 +2,7 @@ use Prim.Native.Nat.{ℕ, _+_}
 use mathlib.Core.Path.{sym, ap, _∙_}
 use denote.Ref.{now}
 use Rattle.rules.specs.Fields.{splice, stampBytes, signedOf}
-use Rattle.records.specs.Packed.{stamp-length}
+use Rattle.laws.proofs.Records.Packed.{stamp-length}
 use borrow.Author.Needs.{needs}
 use Rattle.records.proofs.put_stamp.Statement.{statement}
 use Rattle.records.proofs.put_stamp.Tie as tie

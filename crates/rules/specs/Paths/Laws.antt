@@ -3,12 +3,12 @@ use Prim.Native.Nat.{ℕ}
 use mathlib.Core.Path.{_≡_, refl, sym, ap, subst, _∙_}
 use mathlib.Core.Bool.{Bool, true, false, _&&_, _||_, not}
 use mathlib.Core.List.{List, [], _∷_}
-use lib.Dec.{eqb}
+use lib.Dec.{eqb, leb}
 use borrow.Author.Tests.{eqb-true}
 use Rattle.rules.specs.Lists.{all, any, first, firstIf, isSome, eqList}
-use Rattle.rules.specs.Lists.Laws.{clash, eqList-refl, eqList-true}
+use Rattle.rules.specs.Lists.Laws.{clash, and-true, eqList-refl, eqList-true}
 use Rattle.rules.specs.Index.{Entry, liveType, deletedType, runType, directoryType, fileType, typeDirectory, typeFile, typeDeletedDirectory, typeDeletedFile}
-use Rattle.rules.specs.Paths.{isLive, liveAt, lookup, pathsDiffer}
+use Rattle.rules.specs.Paths.{isLive, liveAt, lookup, liveFrom, pathsDiffer}
 
 -- ---- types
 -- what holds of both kinds, live or deleted
@@ -42,6 +42,15 @@ live-run = live-cases (λ t. runType t ≡ true) refl refl
 pub gone-run : (t : ℕ) → deletedType t ≡ true → runType t ≡ true
 unfolding runType directoryType fileType
 gone-run = deleted-cases (λ t. runType t ≡ true) refl refl
+
+-- what is live from a slot on has a run
+pub from-live : (k : ℕ) (e : Entry) → liveFrom k e ≡ true → isLive e ≡ true
+unfolding liveFrom
+from-live k e h = and-true (isLive e) (leb k (e .slot)) h .0
+
+pub from-run : (k : ℕ) (e : Entry) → liveFrom k e ≡ true → runType (e .kind) ≡ true
+unfolding isLive
+from-run k e h = live-run (e .kind) (from-live k e h)
 
 -- ---- two paths are compared either way round
 pub eqList-sym : (xs ys : List ℕ) → eqList xs ys ≡ eqList ys xs

@@ -1,4 +1,4 @@
--- Laws of the reading calls: the ways that a call can end. Of an entry that read or list found, the code's crate has the other ends.
+-- Laws of the reading calls: the ways that a call can end. Of an entry that read found, the code's crate has the other ends.
 use Prim.Native.Nat.{ℕ, _≤_, _<_}
 use mathlib.Core.Path.{_≡_, ap, _∙_}
 use mathlib.Core.Bool.{true, false}
@@ -7,13 +7,14 @@ use mathlib.Core.Option.{none, some}
 use lib.ListN.{length}
 use borrow.Author.Tests.{le-leb, lt-leb, eq-eqb}
 use Rattle.rules.specs.Fields.{splice}
+use Rattle.rules.specs.Editions.{Edition}
 use Rattle.rules.specs.Names.{pathGood}
 use Rattle.rules.specs.Index.{Entry, volumeName, typeFile}
 use Rattle.rules.specs.Paths.{lookup, nextLive}
 use Rattle.rules.specs.Refusals.{refused, accepted, Volume, entries, judge}
 use Rattle.rules.specs.Refusals.Laws.{need-true, need-false, found-none, found-some}
-use Rattle.rules.specs.Outcome.{done, noVolume, noEntry, noneListed, numbersOf}
-use Rattle.rules.specs.Outcome.Laws.{denied, volume-refused, volume-denied, volume-done}
+use Rattle.rules.specs.Outcome.{Outcome, done, conclude, noVolume, noEntry, ListedNumbers, noneListed, numbersOf}
+use Rattle.rules.specs.Outcome.Laws.{denied, conclude-refused, conclude-accepted, volume-refused, volume-judged, volume-denied, volume-done}
 use Rattle.rules.specs.Reading.{openOf, volumeNumbers, findOf, readOf, fileBytes, listOf, listed}
 
 -- ---- an image that does not open
@@ -79,12 +80,21 @@ module _ (s : List ℕ) (v : Volume) (opens : judge s ≡ accepted v) where
     unfolding listOf listed
     list-none e = volume-done noneListed s out _ v _ opens (ap (listed (v .geometry .edition) s out) e)
 
-    module _ (e : Entry) (found : nextLive slot (entries v) ≡ some e) where
-      pub list-short : length out < length (e .path) → listOf s slot out ≡ denied noneListed s out 18
-      unfolding listOf listed
-      list-short h = volume-denied noneListed s out _ v 18 opens (ap (listed (v .geometry .edition) s out) found ∙ need-false 18 _ (lt-leb (length (e .path)) (length out) h))
+-- ---- list, from the entry on that it found
+unfoldable pub listEntry : Edition → List ℕ → Entry → List ℕ → Outcome ListedNumbers
+listEntry ed s e out = conclude noneListed s out (listed ed s out (some e))
 
-      pub list-done : length (e .path) ≤ length out
-          → listOf s slot out ≡ done (record { found = numbersOf (v .geometry .edition) e; pathLength = length (e .path) }) s (splice out 0 (e .path))
-      unfolding listOf listed
-      list-done h = volume-done noneListed s out _ v _ opens (ap (listed (v .geometry .edition) s out) found ∙ need-true 18 _ (le-leb (length (e .path)) (length out) h))
+module _ (ed : Edition) (s : List ℕ) (e : Entry) (out : List ℕ) where
+  pub path-short : length out < length (e .path) → listEntry ed s e out ≡ denied noneListed s out 18
+  unfolding listEntry listed
+  path-short h = conclude-refused noneListed s out 18 (need-false 18 _ (lt-leb (length (e .path)) (length out) h))
+
+  pub path-done : length (e .path) ≤ length out
+      → listEntry ed s e out ≡ done (record { found = numbersOf ed e; pathLength = length (e .path) }) s (splice out 0 (e .path))
+  unfolding listEntry listed
+  path-done h = conclude-accepted noneListed s out _ (need-true 18 _ (le-leb (length (e .path)) (length out) h))
+
+pub list-found : (s : List ℕ) (v : Volume) → judge s ≡ accepted v → (slot : ℕ) (e : Entry) (out : List ℕ) → nextLive slot (entries v) ≡ some e
+    → (ed : Edition) → ed ≡ v .geometry .edition → listOf s slot out ≡ listEntry ed s e out
+unfolding listOf listEntry
+list-found s v opens slot e out f ed of = rw of (volume-judged noneListed s out _ v opens ∙ ap (λ x. conclude noneListed s out (listed (v .geometry .edition) s out x)) f)

@@ -1,5 +1,5 @@
 -- Laws of refusals: the chain of tests by cases, and what an image that opens says.
-use Prim.Native.Nat.{ℕ, _+_, _-_, _*_, _≤_}
+use Prim.Native.Nat.{ℕ, _+_, _-_, _*_, _≤_, _<_}
 use mathlib.Core.Path.{_≡_, refl, sym, ap, subst, _∙_}
 use mathlib.Core.Bool.{Bool, true, false}
 use mathlib.Core.List.{List, _∷_, _++_, append-assoc}
@@ -8,7 +8,7 @@ use native.Mathlib.Omega.{arith}
 use lib.ListN.{getD, length, length-append}
 use lib.Dec.{leb}
 use lib.IntN.{ℤ}
-use borrow.Author.Tests.{le-leb, leb-true}
+use borrow.Author.Tests.{le-leb, lt-leb, leb-true}
 use Rattle.rules.specs.Lists.{part, eqList, padded}
 use Rattle.rules.specs.Lists.Laws.{pick-true, pick-false, and-true, eqList-refl, eqList-true, part-part, length-padded, padded-behind}
 use Rattle.rules.specs.Fields.{byteAt, le, splice, stampBytes}
@@ -22,7 +22,7 @@ use Rattle.rules.specs.Index.{Item, itemsOf, entriesOf, indexSound, type
 use Rattle.rules.specs.Index.Laws.{length-bare}
 use Rattle.rules.specs.Regions.{regionsSound}
 use Rattle.rules.specs.Paths.{pathsSound}
-use Rattle.rules.specs.Refusals.{Verdict, refused, accepted, need, needFound, andThen, Volume, entries, magicGood, editionOf, versionGood, checksumGood, judgeSuper, judgeGeometry, judgeIndex, judge, judgeAs, OneEdition, AnyOrder}
+use Rattle.rules.specs.Refusals.{Verdict, refused, accepted, need, needFound, andThen, Volume, entries, magicGood, editionOf, versionGood, checksumGood, judgeSuper, judgeGeometry, judgeIndex, judge, judgeRead, judgeAs, OneEdition, AnyOrder}
 use Rattle.rules.specs.Writing.{freshGeometry, formatted}
 
 -- ---- a chain of tests
@@ -53,6 +53,20 @@ found-none n next e = rw e
 pub found-some : {A B : Type 0} {o : Option B} {y : B} (n : ℕ) (next : B → Verdict A) → o ≡ some y → needFound o n next ≡ next y
 unfolding needFound
 found-some n next e = rw e
+
+-- ---- as the programs judge
+module _ (s : List ℕ) where
+  pub read-long : 65_536 < length s → judgeRead s ≡ refused 1
+  unfolding judgeRead
+  read-long h = need-false 1 (judge s) (lt-leb (length s) 65_536 h)
+
+  pub read-short : length s ≤ 65_536 → judgeRead s ≡ judge s
+  unfolding judgeRead
+  read-short h = need-true 1 (judge s) (le-leb (length s) 65_536 h)
+
+  pub read-opens : (v : Volume) → judgeRead s ≡ accepted v → (length s ≤ 65_536) × (judge s ≡ accepted v)
+  unfolding judgeRead
+  read-opens v e = let h = need-accepted (leb (length s) 65_536) 1 (judge s) e in (leb-true (length s) 65_536 (h .0), h .1)
 
 pub then-refused : {A B : Type 0} {v : Verdict A} {n : ℕ} (next : A → Verdict B) → v ≡ refused n → andThen v next ≡ refused n
 unfolding andThen

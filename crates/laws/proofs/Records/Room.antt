@@ -15,11 +15,11 @@ use Rattle.rules.specs.Refusals.{accepted, Volume, entries, judge}
 use Rattle.rules.specs.Refusals.Laws.{judge-opens}
 use Rattle.rules.specs.Outcome.{done}
 use Rattle.rules.specs.Records.{stopAt, withRecord, listAllOf}
 use Rattle.laws.proofs.Index.Slots.{inner-slots}
 use Rattle.rules.specs.Index.Items.{stale-fits}
 use Rattle.laws.proofs.Index.Entries.{item-cases, run-slots, run-within, run-path-length, unusable-slots, unusable-bare}
 use Rattle.laws.proofs.Listing.Weights.{bytes-drop, Weighs, sum-walk}
-use Rattle.records.specs.Packed.{recordLength, packed, list-all-opened, records-left}
+use Rattle.laws.proofs.Records.Packed.{recordLength, packed, list-all-opened, records-left}
 
 -- a record has at most 120 bytes for each slot of its entry
 record-weighs : (ed : Edition) (left k : ℕ) (a : List ℕ) → 0 < left → Bytes a → Weighs recordLength 120 left (itemAt ed left k a)
@@ -44,7 +44,7 @@ live-fit s v opens bytes slot =
     let g = v .geometry in
     let n = innerSlots g in
     let all : sum recordLength (entries v) ≤ 120 * n =
-        rw (o .items-are) (sum-walk (g .edition) recordLength 120 (record-weighs (g .edition)) n n 1 (drop (slotAt s g 1) s) (bytes-drop (slotAt s g 1) s bytes)) in
+    rw (o .items-are) (sum-walk (g .edition) recordLength 120 (record-weighs (g .edition)) n n 1 (drop (slotAt s g 1) s) (bytes-drop (slotAt s g 1) s bytes)) in
     omega (arith, all, sum-parts recordLength (liveFrom slot) (entries v), inner-slots g, o .geometry-good .index-high)
 
 pub records-fit : (s : List ℕ) (v : Volume) → judge s ≡ accepted v → Bytes s → (slot : ℕ) (out : List ℕ) → 491_520 ≤ length out

@@ -2,9 +2,9 @@ use mathlib.Core.Path.{ap}
 use native.Mathlib.Omega.{arith}
 use lib.ListN.{length}
 use Rattle.rules.specs.Text.Laws.{wide-one}
 use Rattle.text.specs.Wrote.{wrote-both}
-use Rattle.listing.proofs.put_counted.Statement.{statement}
-use Rattle.listing.proofs.put_counted.Tie as tie
+use Rattle.text.proofs.put_counted.Statement.{statement}
+use Rattle.text.proofs.put_counted.Tie as tie
 
 put-bytes-requires : tie.Need-put-bytes-requires
 put-bytes-requires c κs = omega arith

@@ -19,16 +19,16 @@ use Rattle.rules.specs.Editions.{Edition}
 use Rattle.rules.specs.Names.{textGood, parts, partGood, pathGood}
 use Rattle.rules.specs.Index.{Entry, liveType, runType}
 use Rattle.rules.specs.Paths.{isLive, liveFrom, nextLive}
-use Rattle.rules.specs.Paths.Laws.{live-cases, live-run}
+use Rattle.rules.specs.Paths.Laws.{live-cases, from-live, from-run}
 use Rattle.rules.specs.Refusals.{Verdict, need, refused, accepted, Volume, entries, judge}
 use Rattle.rules.specs.Refusals.Laws.{judge-opens}
 use Rattle.rules.specs.Outcome.{Outcome, done, conclude, EntryNumbers, ListedNumbers, noEntry, noneListed, numbersOf}
 use Rattle.rules.specs.Outcome.Laws.{denied}
-use Rattle.rules.specs.Reading.Laws.{list-refused, list-none, list-short, list-done}
+use Rattle.rules.specs.Reading.Laws.{list-refused, list-none, list-found, path-short, path-done}
 use Rattle.rules.specs.Records.{numberBytes, numbersBytes, recordBytes, recordOf, Recorded, stopAt, withRecord, recordStep, recordsFrom, RecordSteps, RecordsNumbers, noRecords, recordsOutcome, listAllOf}
 use Rattle.laws.proofs.Lists.Every.{all-only, all-chosen}
 use Rattle.laws.proofs.Index.Entries.{every-entry, run-path, unusable-kind}
-use Rattle.records.specs.Rising.{Rising, live-next, entries-rise}
+use Rattle.laws.proofs.Records.Rising.{Rising, live-next, entries-rise}
 
 -- ---- a record's length
 abbrev pub recordLength : Entry → ℕ
@@ -65,14 +65,12 @@ packed ed room k (e ∷ es) =
     (withRecord (recordBytes (numbersOf ed e) (e .path)) (packed ed (room - recordLength e) (e .slot + 1) es))
     (stopAt 18 k)
 
--- what is listed is live, so it is a run
-chosen-live : (k : ℕ) (es : List Entry) (x : Entry) (xs : List Entry) → only (liveFrom k) es ≡ x ∷ xs → isLive x ≡ true
-unfolding liveFrom
-chosen-live k es x xs e = and-true (isLive x) (leb k (x .slot)) ((rw e at (all-chosen (liveFrom k) es)) .0) .0
+-- the first that is listed passed the test
+chosen-from : (k : ℕ) (es : List Entry) (x : Entry) (xs : List Entry) → only (liveFrom k) es ≡ x ∷ xs → liveFrom k x ≡ true
+chosen-from k es x xs e = (rw e at (all-chosen (liveFrom k) es)) .0
 
 pub chosen-run : (k : ℕ) (es : List Entry) (x : Entry) (xs : List Entry) → only (liveFrom k) es ≡ x ∷ xs → runType (x .kind) ≡ true
-unfolding isLive
-chosen-run k es x xs e = live-run (x .kind) (chosen-live k es x xs e)
+chosen-run k es x xs e = from-run k x (chosen-from k es x xs e)
 
 -- list's path is at the start of what it was lent
 front : (out path : List ℕ) → take (length path) (splice out 0 path) ≡ path
@@ -95,7 +93,7 @@ module _ (s : List ℕ) (v : Volume) (opens : judge s ≡ accepted v) (named : A
   -- an entry that is listed has a path, and its record is list's answer
   module _ (k : ℕ) (x : Entry) (xs : List Entry) (e : only (liveFrom k) (entries v) ≡ x ∷ xs) where
     live-here : isLive x ≡ true
-    live-here = chosen-live k (entries v) x xs e
+    live-here = from-live k x (chosen-from k (entries v) x xs e)
 
     kind-here : eqb (x .kind) 0 ≡ false
     unfolding isLive
@@ -121,7 +119,7 @@ module _ (s : List ℕ) (v : Volume) (opens : judge s ≡ accepted v) (named : A
       fits-here p =
           let room : recordLength x ≤ length out = omega (arith, p, path-here, length-drop numberBytes out) in
           let left : length (drop (recordLength x) out) ≡ length out - recordLength x = length-drop (recordLength x) out in
-          rw (list-done s v opens k lent x (some-next k x xs e) p, kind-here, le-leb (recordLength x) (length out) room)
+          rw (list-found s v opens k x lent (some-next k x xs e) ed refl ∙ path-done ed s x lent p, kind-here, le-leb (recordLength x) (length out) room)
           (ap₂ withRecord (record-here lent)
           (ap (λ (m : ℕ). recordsFrom n s (x .slot + 1) (drop m out)) (ap length (record-here lent) ∙ record-length ed x)
           ∙ more (drop (recordLength x) out) (omega (arith, left, room)) ∙ ap (λ (m : ℕ). packed ed m (x .slot + 1) xs) left))
@@ -129,7 +127,7 @@ module _ (s : List ℕ) (v : Volume) (opens : judge s ≡ accepted v) (named : A
       short-here : length lent < length (x .path) → recordsFrom (suc n) s k out ≡ packed ed (length out) k (x ∷ xs)
       unfolding recordsFrom packed recordStep pick
       short-here p =
-          rw (list-short s v opens k lent x (some-next k x xs e) p, lt-leb (recordLength x) (length out) (omega (arith, p, path-here, length-drop numberBytes out)))
+          rw (list-found s v opens k x lent (some-next k x xs e) ed refl ∙ path-short ed s x lent p, lt-leb (recordLength x) (length out) (omega (arith, p, path-here, length-drop numberBytes out)))
 
   pub records-packed : (steps k : ℕ) (out : List ℕ) → length out < steps → (live : List Entry) → only (liveFrom k) (entries v) ≡ live
       → recordsFrom steps s k out ≡ packed ed (length out) k live

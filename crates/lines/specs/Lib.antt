@@ -1,0 +1,3 @@
+-- What the contracts say beside the rules.
+pub mod Feeding
+pub mod Pieces
