@@ -4,7 +4,8 @@
 use crate::index::Entry;
 use crate::refusal::Refusal;
 
-/// The answer of the calls that write: format, create, delete, restore and reclaim, and report_add.
+/// The answer of the calls that write: format, create, delete, restore and reclaim, and report_add; and of sharing,
+/// where 7 also says that two regions share a block.
 #[derive(Clone, Copy, Debug, Default, PartialEq, Eq)]
 pub struct Written {
     pub refusal: Refusal,
@@ -69,6 +70,13 @@ pub struct Records {
 pub struct Read {
     pub refusal: Refusal,
     pub length: u64,
+}
+
+/// The answer of regions. Unlike a refusal 7, a 7 that says that two regions share a block comes with their number.
+#[derive(Clone, Copy, Debug, Default, PartialEq, Eq)]
+pub struct Tabled {
+    pub answer: Refusal,
+    pub regions: u64,
 }
 
 impl From<Result<(), Refusal>> for Written {

@@ -17,21 +17,40 @@ impl Region {
     pub fn blocks(&self) -> u64 {
         self.end.saturating_sub(self.start)
     }
+
+    /// Whether some block is in both.
+    fn shares(&self, other: &Region) -> bool {
+        self.start < other.end && other.start < self.end
+    }
 }
 
 /// Judges the regions of all entries and gives them in order of their blocks.
 pub fn judge(entries: &[Entry], geometry: &Geometry) -> Result<Vec<Region>, Refusal> {
+    let mut regions = gather(entries, geometry)?;
+    regions.sort_unstable();
+    if neighbours_share(&regions) {
+        return Err(refusal::REGIONS);
+    }
+    Ok(regions)
+}
+
+/// The regions of all entries in slot order, each judged by itself alone.
+pub fn gather(entries: &[Entry], geometry: &Geometry) -> Result<Vec<Region>, Refusal> {
     let mut regions = Vec::new();
     for entry in entries {
         regions.extend(region(entry, geometry)?);
     }
-    regions.sort_unstable();
-    // None is empty, so in sorted order any overlap shows between neighbours.
-    let shared = regions.windows(2).any(|pair| pair[0].end > pair[1].start);
-    if shared {
-        return Err(refusal::REGIONS);
-    }
     Ok(regions)
+}
+
+/// Whether two of these regions, sorted, share a block. None is empty, so any overlap shows between neighbours.
+pub fn neighbours_share(sorted: &[Region]) -> bool {
+    sorted.windows(2).any(|pair| pair[0].end > pair[1].start)
+}
+
+/// The same of regions in any order: each is compared with every other.
+pub fn any_share(regions: &[Region]) -> bool {
+    regions.iter().enumerate().any(|(place, one)| regions[place + 1..].iter().any(|other| one.shares(other)))
 }
 
 /// The region of one entry, if it holds any blocks.

@@ -1,10 +1,12 @@
 //! The script interpreter. `SCRIPT.md` is the exact description of what it reads and prints.
 
-use crate::answer::{Found, Listed, Opened, Read, Records};
+use crate::answer::{Found, Listed, Opened, Read, Records, Tabled};
+use crate::bytes::get_u64;
 use crate::edition::Edition;
 use crate::history::{History, Told};
 use crate::refusal::{Counts, Refusal};
 use crate::report;
+use crate::sharing::{self, TableRegion};
 use crate::store::{Own, Store};
 use crate::xorshift::fill;
 use std::collections::BTreeMap;
@@ -15,6 +17,12 @@ pub const MOST_BYTES: u64 = 17_000_000;
 /// The numbers that a script keeps for its report. Calls are lent the first of them: a write behind those shows.
 pub const REPORT_ROOM: usize = 40;
 
+/// The most places a script may ask for in a table of regions, or besides as many as the image has.
+pub const MOST_PLACES: usize = 5_000;
+/// Of a table with more places than these only the ends are printed, so many places each, and a digest of it all.
+pub const MOST_SHOWN: usize = 16;
+pub const ENDS_SHOWN: usize = 4;
+
 /// FNV-1a, 64 bits.
 pub fn digest(bytes: &[u8]) -> u64 {
     bytes.iter().fold(0xCBF2_9CE4_8422_2325, |hash, byte| (hash ^ u64::from(*byte)).wrapping_mul(0x0100_0000_01B3))
@@ -23,6 +31,17 @@ pub fn digest(bytes: &[u8]) -> u64 {
 /// A lent output, prefilled so that stray writes show in its digest.
 pub fn lent(length: usize) -> Vec<u8> {
     (0..length).map(|place| 0xA5 ^ (place.wrapping_mul(7) & 0xFF) as u8).collect()
+}
+
+/// A lent table of regions, filled so that stray writes show.
+pub fn lent_table(places: usize, seed: u64) -> Vec<TableRegion> {
+    let bytes = fill(16 * places, seed);
+    bytes.chunks(16).map(|place| TableRegion { start: get_u64(place, 0), end: get_u64(place, 8) }).collect()
+}
+
+/// The bytes of a table, as `lent_table` takes them from a fill.
+pub fn table_bytes(table: &[TableRegion]) -> Vec<u8> {
+    table.iter().flat_map(|place| [place.start, place.end]).flat_map(u64::to_le_bytes).collect()
 }
 
 /// A report without an image; each number behind it is that of its place.
@@ -75,6 +94,19 @@ impl<'a> Words<'a> {
         Ok(number)
     }
 
+    /// The places of a table: a number of them, or `=` for as many as `count` gives, `=+N` for more, `=-N` for fewer.
+    fn places(&mut self, count: impl FnOnce() -> usize) -> Result<usize, String> {
+        let word = self.word()?;
+        let bad = || format!("bad places {word:.30}");
+        let number = |digits: &str| digits.parse().ok().filter(|places| *places <= MOST_PLACES).ok_or_else(bad);
+        match (word.strip_prefix('='), word.strip_prefix("=+"), word.strip_prefix("=-")) {
+            (Some(""), ..) => Ok(count()),
+            (_, Some(more), _) => Ok(count() + number(more)?),
+            (_, _, Some(fewer)) => Ok(count().saturating_sub(number(fewer)?)),
+            _ => number(word),
+        }
+    }
+
     fn bytes(&mut self) -> Result<Vec<u8>, String> {
         unhex(self.word()?)
     }
@@ -111,13 +143,14 @@ pub struct Session<S = Own> {
     image: Vec<u8>,
     history: Option<History>,
     report: [u64; REPORT_ROOM],
-    /// How often each refusal number was the answer of a call; listings, reports and histories not counted.
+    /// How often each refusal number was the answer of a call; listings, reports, tests for shared blocks and histories
+    /// not counted.
     pub met: Counts,
-    /// The same with listings and reports, parted by call; api has no such number.
+    /// The same with listings, reports and tests for shared blocks, parted by call; api has no such number.
     by_call: BTreeMap<Called, Counts>,
-    /// Calls answered, listings, reports and api among them.
+    /// Calls answered, listings, reports, tests for shared blocks and api among them.
     pub calls: u64,
-    /// The last call's refusal number, listings and reports left out.
+    /// The last call's refusal number, listings, reports and tests for shared blocks left out.
     pub last: Refusal,
     digests: bool,
 }
@@ -161,9 +194,10 @@ impl<S: Store> Session<S> {
         self.sum(|(called, _)| called == word)
     }
 
-    /// How often calls on images with this edition's magic answered each number, but for formats, listings and reports.
+    /// How often calls on images with this edition's magic answered each number, but for formats, listings, reports and
+    /// tests for shared blocks.
     pub fn answers_in(&self, edition: Edition) -> Counts {
-        let others = ["format", "listing", "reportadd", "reporttext"];
+        let others = ["format", "listing", "reportadd", "reporttext", "regions", "sharing"];
         self.sum(|(word, met)| *met == Some(edition) && !others.contains(&word.as_str()))
     }
 
@@ -189,6 +223,8 @@ impl<S: Store> Session<S> {
             "reportnew" | "reportset" => self.set_report(word, words).map(|()| None),
             "reportadd" => self.report_add(words).map(Some),
             "reporttext" => self.report_text(words).map(Some),
+            "regions" => self.regions(words).map(Some),
+            "sharing" => words.done().map(|()| Some(self.sharing())),
             "api" => words.done().map(|()| Some(self.api())),
             "history" => words.done().map(|()| Some(self.check())),
             _ => Err(format!("unknown command {word:.20}")),
@@ -307,6 +343,25 @@ impl<S: Store> Session<S> {
         Ok(self.answer("reporttext", refusal, &length, Some(&output)))
     }
 
+    fn regions(&mut self, mut words: Words) -> Result<String, String> {
+        let places = words.places(|| sharing::count(&self.image))?;
+        let mut table = lent_table(places, words.number()?);
+        words.done()?;
+        let Tabled { answer, regions } = self.store.regions(&self.image, &mut table);
+        self.calls += 1;
+        self.count_by_call("regions", answer, Edition::of_image(&self.image));
+        let (table, image) = (self.shown_table(&table), self.shown("img", &self.image));
+        Ok(format!("regions {answer} {regions} {places}{table}{image}"))
+    }
+
+    /// Counted by the answer of the quicker engine.
+    fn sharing(&mut self) -> String {
+        let [answer, plain] = [S::sharing, S::sharing_plain].map(|engine| engine(&self.store, &self.image).refusal);
+        self.calls += 1;
+        self.count_by_call("sharing", answer, Edition::of_image(&self.image));
+        self.answer("sharing", answer, &[plain.into()], None)
+    }
+
     fn api(&mut self) -> String {
         self.calls += 1;
         format!("api {}", self.store.api())
@@ -335,6 +390,20 @@ impl<S: Store> Session<S> {
         let numbers: String = numbers.iter().map(|number| format!(" {number}")).collect();
         let output = output.map_or(String::new(), |output| self.shown("out", output));
         format!("{word} {refusal}{numbers}{output}{}", self.shown("img", &self.image))
+    }
+
+    fn shown_table(&self, table: &[TableRegion]) -> String {
+        let words = |places: &[TableRegion]| -> String {
+            places.iter().map(|place| format!(" {}-{}", place.start, place.end)).collect()
+        };
+        if table.len() <= MOST_SHOWN {
+            return words(table);
+        }
+        let ends = words(&table[..ENDS_SHOWN]) + &words(&table[table.len() - ENDS_SHOWN..]);
+        if !self.digests {
+            return ends;
+        }
+        format!("{ends} {:016x}", digest(&table_bytes(table)))
     }
 
     fn shown(&self, label: &str, bytes: &[u8]) -> String {

@@ -2,7 +2,7 @@
 
 use crate::edition::Edition;
 use crate::generator;
-use crate::refusal::{Counts, Refusal, OF_1_10, OF_REPORT, OF_RESTORE};
+use crate::refusal::{Counts, Refusal, OF_1_10, OF_REGIONS, OF_REPORT, OF_RESTORE};
 use crate::script::{Called, Session};
 use std::collections::BTreeMap;
 use std::fmt;
@@ -18,10 +18,13 @@ pub struct Tally {
     pub met: Counts,
     /// The same for the restores alone.
     pub restores: Counts,
-    /// The same for the calls on images of edition 1.10 alone; formats, listings and reports left out.
+    /// The same for the calls on images of edition 1.10 alone; formats, listings, reports and tests for shared blocks
+    /// left out.
     pub newer: Counts,
     /// The same for the images added to reports.
     pub reports: Counts,
+    /// The same for the tables of regions.
+    pub regions: Counts,
     pub failures: Vec<String>,
 }
 
@@ -44,7 +47,7 @@ fn run_one(script: String, place: u64, tally: &mut Tally) {
                 checked = true;
                 tally.histories += 1;
             }
-            Ok(Some(text)) if text.starts_with("history FAILED") => {
+            Ok(Some(text)) if text.starts_with("history FAILED") || engines_differ(&text) => {
                 tally.failures.push(format!("script {place}: {text}"))
             }
             Ok(_) => {}
@@ -60,6 +63,13 @@ fn run_one(script: String, place: u64, tally: &mut Tally) {
     add(&mut tally.restores, &session.answers("restore"));
     add(&mut tally.newer, &session.answers_in(Edition::V1_10));
     add(&mut tally.reports, &session.answers("reportadd"));
+    add(&mut tally.regions, &session.answers("regions"));
+}
+
+/// Whether this line says that one engine found a shared block, or a refusal, where the other did not.
+fn engines_differ(text: &str) -> bool {
+    let mut words = text.split(' ');
+    words.next() == Some("sharing") && words.next() != words.next()
 }
 
 fn add(sums: &mut Counts, more: &Counts) {
@@ -79,6 +89,11 @@ pub fn newer_table(counts: &Counts) -> String {
 /// A line for each number that adding an image to a report can answer.
 pub fn report_table(counts: &Counts) -> String {
     table("reportadd", &OF_REPORT, counts)
+}
+
+/// A line for each number that a table of regions can be answered with.
+pub fn region_table(counts: &Counts) -> String {
+    table("regions", &OF_REGIONS, counts)
 }
 
 /// A line for each call, edition and number that was met: word, edition, number, how often.
@@ -104,6 +119,7 @@ impl fmt::Display for Tally {
         text.write_str(&restore_table(&self.restores))?;
         text.write_str(&newer_table(&self.newer))?;
         text.write_str(&report_table(&self.reports))?;
+        text.write_str(&region_table(&self.regions))?;
         writeln!(text, "scripts {} calls {}", self.scripts, self.calls)
     }
 }

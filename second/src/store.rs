@@ -1,6 +1,7 @@
 //! The calls as an interface, so that a script can be carried out on another store and the answers compared.
 
-use crate::answer::{Found, Listed, Opened, Read, Records, Written};
+use crate::answer::{Found, Listed, Opened, Read, Records, Tabled, Written};
+use crate::sharing::TableRegion;
 
 /// The number of the interface, raised whenever an answer or an argument changes.
 pub const API: u32 = 1;
@@ -29,6 +30,9 @@ pub trait Store {
     fn listing(&self, image: &[u8], output: &mut [u8]) -> Read;
     fn report_add(&self, image: &[u8], report: &mut [u64]) -> Written;
     fn report_text(&self, report: &[u64], output: &mut [u8]) -> Read;
+    fn regions(&self, image: &[u8], table: &mut [TableRegion]) -> Tabled;
+    fn sharing(&self, image: &[u8]) -> Written;
+    fn sharing_plain(&self, image: &[u8]) -> Written;
 }
 
 /// This crate's own calls.
@@ -102,5 +106,17 @@ impl Store for Own {
 
     fn report_text(&self, report: &[u64], output: &mut [u8]) -> Read {
         crate::report_text(report, output)
+    }
+
+    fn regions(&self, image: &[u8], table: &mut [TableRegion]) -> Tabled {
+        crate::regions(image, table)
+    }
+
+    fn sharing(&self, image: &[u8]) -> Written {
+        crate::sharing(image)
+    }
+
+    fn sharing_plain(&self, image: &[u8]) -> Written {
+        crate::sharing_plain(image)
     }
 }

@@ -26,7 +26,7 @@ fn scripts_are_the_same_every_time() {
     #[rustfmt::skip]
     let kinds = [
         "history", "damage", "built", "edges", "args", "names", "restore", "tails", "crowded", "sums", "editions",
-        "report",
+        "report", "regions",
     ];
     for kind in kinds {
         let script = generator::script(3, 200, Some(kind));
@@ -385,6 +385,8 @@ fn any_image_gets_an_answer() {
                 "reclaim 1",
                 "listing 131072",
                 "reportadd 27",
+                "regions =+1 1",
+                "sharing",
             ]
             .map(String::from),
         );

@@ -18,8 +18,11 @@ use std::io::{self, Read, Write};
 use std::path::PathBuf;
 use std::process::{Command, Stdio};
 
-const FAMILIES: [&str; 11] =
-    ["history", "damage", "built", "edges", "args", "names", "restore", "tails", "crowded", "sums", "editions"];
+#[rustfmt::skip]
+const FAMILIES: [&str; 12] = [
+    "history", "damage", "built", "edges", "args", "names", "restore", "tails", "crowded", "sums", "editions",
+    "regions",
+];
 
 /// The lines of a report over these images.
 fn text_over(images: &[&[u8]]) -> String {

@@ -356,7 +356,7 @@ fn answers_of_every_sort() {
 
 /// What a call can answer on an image with a magic besides 0 and the numbers of the whole volume, in 1.0 and in 1.10.
 #[rustfmt::skip]
-const OF_CALLS: [(&str, &[u8], &[u8]); 12] = [
+const OF_CALLS: [(&str, &[u8], &[u8]); 13] = [
     ("open", &[18], &[18]),
     ("find", &[10, 11], &[10, 11]),
     ("list", &[18], &[18]),
@@ -369,6 +369,7 @@ const OF_CALLS: [(&str, &[u8], &[u8]); 12] = [
     ("reclaim", &[9], &[]),
     ("listing", &[18], &[18]),
     ("reportadd", &[18], &[18]),
+    ("regions", &[18], &[18]),
 ];
 
 /// All that a call can answer, by the edition of the image, or for a format of its version.
@@ -385,7 +386,9 @@ fn answerable(word: &str, edition: Option<Edition>) -> Vec<u8> {
     let own = of_call.map_or(&[][..], |(_, old, new)| if edition == Some(NEWER) { new } else { old });
     // Nothing is ever restored in 1.10.
     let accepted = if (word, edition) == ("restore", Some(NEWER)) { &[][..] } else { &[0] };
-    [accepted, &[1, 3, 4, 5, 6, 7, 8], own].concat()
+    // The test for shared blocks does not judge paths.
+    let paths = if matches!(word, "regions" | "sharing") { &[][..] } else { &[8] };
+    [accepted, &[1, 3, 4, 5, 6, 7], paths, own].concat()
 }
 
 #[test]
@@ -403,7 +406,7 @@ fn every_answer_of_every_call_in_both_editions() {
     }
     println!("{}", selftest::call_table(&met));
     // The text of a report goes by no image.
-    assert_eq!(met.len(), 13 * 3 + 1);
+    assert_eq!(met.len(), 15 * 3 + 1);
     for ((word, edition), counts) in &met {
         let numbers: Vec<u8> = (0..).zip(counts).filter(|(_, count)| **count > 0).map(|(number, _)| number).collect();
         assert_eq!(numbers, answerable(word, *edition), "{word} {edition:?}");
@@ -412,7 +415,10 @@ fn every_answer_of_every_call_in_both_editions() {
 
 #[test]
 fn every_family_in_both_editions() {
-    let kinds = ["history", "damage", "built", "edges", "args", "names", "restore", "tails", "crowded", "editions"];
+    #[rustfmt::skip]
+    let kinds = [
+        "history", "damage", "built", "edges", "args", "names", "restore", "tails", "crowded", "editions", "regions",
+    ];
     for kind in kinds {
         let mut read = BTreeMap::new();
         let mut writes = BTreeMap::new();

@@ -18,6 +18,7 @@ use Rattle.rules.specs.Text.{digit, digits, decimal, widened}
 use Rattle.rules.specs.Dates.{floorDiv, floorMod, divides, leapYear, yearLength, monthLength, countOff, yearOff, monthOff, dateIn, dateOf, secondsOf, daysOf, secondOfDay, momentOf, yearText, twoDigits, momentText}
 use Rattle.rules.specs.Listing.{lineOf, linesOf, countLine, refusedLine, volumeText, listingOf, textOf}
 use Rattle.rules.specs.Report.{entryKind, itemKind, slotsIn, blocksIn, bytesIn, sumsOfKind, sumsOf, openedSums, imageSums, added, oneMore, countVerdict, noReport, withImage, withSource, reportFrom, sourceSums, totals, numbersLine, tableLines, kindWords, pairs, countLines, reportText, reportOf, linesAfter, namesOf, nameOfFile, sourceOf, outputOf, reportIn, reportNumbers, verdictNumber, countImage, reportTextOf}
+use Rattle.rules.specs.RegionTable.{extentOf, extentsOf, extentLe, inserted, inOrder, apartNumber, untabled, tabled, judgeBounds, tableBy, tableOf, sharingBy, sharingOf}
 use Rattle.rules.specs.Comparing.{atLast, lastAlike, goesOn, walked, looked, nameIn, met, entryLooked, searchLooked, findLooked}
 
 -- All definitions of the rules by one name: a theorem that says `unfolding everything` computes through them.
@@ -53,5 +54,6 @@ unfolding
     lineOf linesOf countLine refusedLine volumeText listingOf textOf
     entryKind itemKind slotsIn blocksIn bytesIn sumsOfKind sumsOf openedSums imageSums added oneMore countVerdict noReport withImage withSource reportFrom sourceSums totals
     numbersLine tableLines kindWords pairs countLines reportText reportOf linesAfter namesOf nameOfFile sourceOf outputOf reportIn reportNumbers verdictNumber countImage reportTextOf
+    extentOf extentsOf extentLe inserted inOrder apartNumber untabled tabled judgeBounds tableBy tableOf sharingBy sharingOf
     atLast lastAlike goesOn walked looked nameIn met entryLooked searchLooked findLooked
 everything = tt

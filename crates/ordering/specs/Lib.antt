@@ -8,3 +8,4 @@ pub mod Chains
 pub mod Windows
 pub mod Pivots
 pub mod Regions
+pub mod Tables

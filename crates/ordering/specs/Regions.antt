@@ -192,11 +192,7 @@ all-ahead (k ∷ ks) s o h = (ahead k ks (s .1) (o .0) (h .0), all-ahead ks (s .
 apart-in-turn : (ks : List ℕ) → All Filled ks → Pairs (λ a b. a / 65_536 ≤ b / 65_536) ks → everyTwo keysApart ks ≡ true → inTurn 0 ks ≡ true
 apart-in-turn ks s o h = turn-holds 0 ks (all-of (λ k. 0 ≤ keyStart k) (λ k. omega arith) ks) (all-ahead ks s o (two-says keysApart ks h))
 
--- ---- regions whose keys are in turn are apart, whatever the order of the keys
-pub in-turn-apart : (es : List Entry) (ks : List ℕ) → All Small es → Perm (map regionKey (only hasRegion es)) ks → inTurn 0 ks ≡ true → everyTwo apart es ≡ true
-in-turn-apart es ks s p h = apart-keys es ks s p ∙ turn-apart ks (all-filled es ks s p) h
-
--- and of keys in order, only those
+-- ---- regions are apart exactly where their keys, in order, are in turn
 pub in-turn-decides : (es : List Entry) (ks : List ℕ) → All Small es → Perm (map regionKey (only hasRegion es)) ks → Pairs (λ a b. a / 65_536 ≤ b / 65_536) ks
     → everyTwo apart es ≡ inTurn 0 ks
 in-turn-decides es ks s p o =

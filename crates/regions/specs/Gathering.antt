@@ -22,7 +22,7 @@ use Rattle.ordering.specs.Keys.{numberOf, keyRest, keyLe}
 use Rattle.ordering.specs.Paths.{pathLe}
 use Rattle.ordering.specs.Starts.{here-and-behind}
 use Rattle.ordering.specs.Turning.{turned-perm}
-use Rattle.ordering.specs.Regions.{regionKey, hasRegion, keyStart, keyEnd, inTurn, Small, all-filled, in-turn-ascends, in-turn-apart, in-turn-decides}
+use Rattle.ordering.specs.Regions.{regionKey, hasRegion, keyStart, keyEnd, inTurn, Small, all-filled, in-turn-ascends, in-turn-decides}
 use Rattle.editions.specs.View.{editionView}
 use Rattle.slots.specs.declared.Head.{Head}
 use Rattle.slots.specs.View.{headView}
@@ -33,6 +33,8 @@ use Rattle.index.specs.Steps.{Walks, Step, entriesFrom}
 use Rattle.index.specs.Turns.{all-next}
 use Rattle.regions.specs.declared.Gathered.{Gathered}
 use Rattle.regions.specs.declared.Gathered.the-variants.{Bad, From}
+use Rattle.regions.specs.declared.Arranged.{Arranged}
+use Rattle.regions.specs.declared.Arranged.the-variants.{Bad as NotGood, From as Lined}
 use Rattle.regions.specs.declared.Regions.{Regions}
 use Rattle.regions.specs.declared.Regions.the-variants.{Unsound, From as InOrder}
 use Rattle.regions.specs.Bounds.{Bounded, within-true}
@@ -199,13 +201,60 @@ module _ (keys : List ℕ) where
     ascends = λ f. pairs-weaken _ _ (number-le ed s at) after (sorted .ascends);
   }
 
--- ---- THE JUDGEMENT: the regions of entries, by their keys in order
+-- ---- THE REGIONS OF ENTRIES, by their keys in order
 -- the keys are those of the regions that entries have, and they ascend
 pub record HasRegions (es : List Entry) (keys : List ℕ) : Type 0 where
   pub small : All Small es
   pub same : Perm (map regionKey (only hasRegion es)) keys
   pub ascends : Pairs (λ a b. a / 65_536 ≤ b / 65_536) keys
 
+-- one is not good; or all are, their keys stand in order from place i on, and whether every two are apart
+unfoldable pub Arranges : List ℕ → Geometry → Cursor → List ℕ → Arranged → Type 0
+Arranges s g c keys NotGood = all (regionGood (geometryView g)) (entriesFrom s c) ≡ false
+Arranges s g c keys (Lined i apartAll) =
+    (all (regionGood (geometryView g)) (entriesFrom s c) ≡ true) × (i ≤ length keys) × HasRegions (entriesFrom s c) (drop i keys) × (apartAll ≡ everyTwo apart (entriesFrom s c))
+
+module _ (s : List ℕ) (g : Geometry) (c : Cursor) (keys : List ℕ) (r : Arranged) (h : Arranges s g c keys r) where
+  pub arranged-bad : r ≡ NotGood → all (regionGood (geometryView g)) (entriesFrom s c) ≡ false
+  unfolding Arranges
+  arranged-bad e = rw e at h
+
+  pub arranged-from : (i : ℕ) (t : Bool) → r ≡ Lined i t
+      → (all (regionGood (geometryView g)) (entriesFrom s c) ≡ true) × (i ≤ length keys) × HasRegions (entriesFrom s c) (drop i keys) × (t ≡ everyTwo apart (entriesFrom s c))
+  unfolding Arranges
+  arranged-from i t e = rw e at h
+
+module _ (s : List ℕ) (g : Geometry) (bounded : Bounded g) (c : Cursor) (good : all (regionGood (geometryView g)) (entriesFrom s c) ≡ true) where
+  all-small : All Small (entriesFrom s c)
+  all-small =
+      all-weaken _ _ (λ e h. h .1 (h .0)) (entriesFrom s c)
+      (all-and _ _ (entriesFrom s c) (all-says (regionGood (geometryView g)) (entriesFrom s c) good) (good-small g bounded s c))
+
+  module _ (keys after : List ℕ) (is : keys ≡ regionKeys (entriesFrom s c)) where
+    keys-same : Perm keys after → Perm (map regionKey (only hasRegion (entriesFrom s c))) after
+    unfolding regionKeys
+    keys-same p = thus (turned-perm (map regionKey (only hasRegion (entriesFrom s c)))) (rw is at p)
+
+    -- they ascend, whether they were in turn or had to be put in order
+    keys-ascend : (r : Bool) → Ordered keys after r → Pairs (λ a b. a / 65_536 ≤ b / 65_536) after
+    keys-ascend r o = by r refl
+      where
+        by : (t : Bool) → r ≡ t → Pairs (λ a b. a / 65_536 ≤ b / 65_536) after
+        by true f = in-turn-ascends after (all-filled (entriesFrom s c) after all-small (keys-same (o .same))) (sym (o .turns) ∙ f)
+        by false f = o .ascends f
+
+    keys-held : (r : Bool) → Ordered keys after r → HasRegions (entriesFrom s c) after
+    keys-held r o = record { small = all-small; same = keys-same (o .same); ascends = keys-ascend r o }
+
+    keys-decide : (r : Bool) → Ordered keys after r → r ≡ everyTwo apart (entriesFrom s c)
+    keys-decide r o = o .turns ∙ sym (in-turn-decides (entriesFrom s c) after all-small (keys-same (o .same)) (keys-ascend r o))
+
+  pub ordered-arranged : (keys kept : List ℕ) (i : ℕ) → keys ≡ regionKeys (entriesFrom s c) → i ≤ length kept
+      → (r : Bool) → Ordered keys (drop i kept) r → Arranges s g c kept (Lined i r)
+  unfolding Arranges
+  ordered-arranged keys kept i is fits r o = (good, fits, keys-held keys (drop i kept) is r o, keys-decide keys (drop i kept) is r o)
+
+-- ---- THE JUDGEMENT
 unfoldable pub JudgesRegions : List ℕ → Geometry → Cursor → List ℕ → Regions → Type 0
 JudgesRegions s g c keys Unsound = regionsSound (geometryView g) (entriesFrom s c) ≡ false
 JudgesRegions s g c keys (InOrder i) =
@@ -220,41 +269,19 @@ module _ (s : List ℕ) (g : Geometry) (c : Cursor) (keys : List ℕ) (r : Regio
   unfolding JudgesRegions
   regions-from i e = rw e at h
 
-module _ (s : List ℕ) (g : Geometry) (bounded : Bounded g) (c : Cursor) (good : all (regionGood (geometryView g)) (entriesFrom s c) ≡ true) where
-  all-small : All Small (entriesFrom s c)
-  all-small =
-      all-weaken _ _ (λ e h. h .1 (h .0)) (entriesFrom s c)
-      (all-and _ _ (entriesFrom s c) (all-says (regionGood (geometryView g)) (entriesFrom s c) good) (good-small g bounded s c))
+module _ (s : List ℕ) (g : Geometry) (c : Cursor) (kept : List ℕ) (r : Arranged) (told : Arranges s g c kept r) where
+  pub bad-unsound : r ≡ NotGood → JudgesRegions s g c kept Unsound
+  unfolding JudgesRegions regionsSound
+  bad-unsound e = rw (arranged-bad s g c kept r told e)
 
-  module _ (keys after : List ℕ) (is : keys ≡ regionKeys (entriesFrom s c)) where
-    keys-same : Perm keys after → Perm (map regionKey (only hasRegion (entriesFrom s c))) after
-    unfolding regionKeys
-    keys-same p = thus (turned-perm (map regionKey (only hasRegion (entriesFrom s c)))) (rw is at p)
+  module _ (i : ℕ) (t : Bool) (e : r ≡ Lined i t) where
+    pub shared-unsound : t ≡ false → JudgesRegions s g c kept Unsound
+    unfolding JudgesRegions regionsSound
+    shared-unsound f = let h = arranged-from s g c kept r told i t e in rw (h .0) (sym (h .3) ∙ f)
 
-    sound-ordered : (r : Bool) → Ordered keys after r → r ≡ regionsSound (geometryView g) (entriesFrom s c)
-    unfolding regionsSound
-    sound-ordered r o = rw good (by r refl)
-      where
-        by : (t : Bool) → r ≡ t → r ≡ everyTwo apart (entriesFrom s c)
-        by true f = f ∙ sym (in-turn-apart (entriesFrom s c) after all-small (keys-same (o .same)) (sym (o .turns) ∙ f))
-        by false f = o .turns ∙ sym (in-turn-decides (entriesFrom s c) after all-small (keys-same (o .same)) (o .ascends f))
-
-    pub ordered-unsound : (r : Bool) → Ordered keys after r → r ≡ false → (kept : List ℕ) → JudgesRegions s g c kept Unsound
-    unfolding JudgesRegions
-    ordered-unsound r o f kept = sym (sound-ordered r o) ∙ f
-
-  pub ordered-from : (keys kept : List ℕ) (i : ℕ) → keys ≡ regionKeys (entriesFrom s c)
-      → (r : Bool) → Ordered keys (drop i kept) r → r ≡ true → JudgesRegions s g c kept (InOrder i)
-  unfolding JudgesRegions
-  ordered-from keys kept i is r o f =
-      let p = keys-same keys (drop i kept) is (o .same) in (
-        sym (sound-ordered keys (drop i kept) is r o) ∙ f,
-        record {
-          small = all-small;
-          same = p;
-          ascends = in-turn-ascends (drop i kept) (all-filled (entriesFrom s c) (drop i kept) all-small p) (sym (o .turns) ∙ f);
-        },
-      )
+    pub apart-sound : t ≡ true → JudgesRegions s g c kept (InOrder i)
+    unfolding JudgesRegions regionsSound
+    apart-sound f = let h = arranged-from s g c kept r told i t e in (rw (h .0) (sym (h .3) ∙ f), h .2)
 
 -- sound regions are small
 pub sound-small : (s : List ℕ) (g : Geometry) → Bounded g → (c : Cursor) → regionsSound (geometryView g) (entriesFrom s c) ≡ true → All Small (entriesFrom s c)

@@ -25,7 +25,7 @@ ghost use Rattle.index.specs.View.{SumsFrom};
 ghost use Rattle.index.specs.Steps.{Walks, entriesFrom};
 ghost use Rattle.ordering.specs.Regions.{regionKey, hasRegion, keyStart, keyEnd, inTurn};
 ghost use Rattle.regions.specs.Bounds.{Bounded};
-ghost use Rattle.regions.specs.Gathering.{Gathers, Ordered, JudgesRegions};
+ghost use Rattle.regions.specs.Gathering.{Gathers, Ordered, Arranges, JudgesRegions};
 
 // One block or more, in the data area.
 fn within_data(g: Geometry, h: Head) -> bool
@@ -188,6 +188,33 @@ fn order(img: &[u8], ed: Edition, at: Offset, keys: &mut [u64], i: usize, tmp: &
     in_turn(keys, i)
 }
 
+// The regions of entries in order, from a place of the lent slice on, and whether no two of them share a block; unless one is not good.
+pub enum Arranged {
+    Bad,
+    From(usize, bool),
+}
+
+// The regions of the entries from the cursor on gathered in `keys` and put in order; tmp is scratch.
+pub fn arrange(
+    img: &[u8],
+    sums: &[u8],
+    g: Geometry,
+    from: Cursor,
+    keys: &mut [u64],
+    tmp: &mut [u64],
+) -> Arranged
+    requires { ⌜ Bounded g × Walks (now img) from × (from .left ≤ length (now keys)) × (length (now keys) ≤ length (now tmp)) × SumsFrom (now img) (now sums) from ⌝ }
+    ensures { λ r. ⌜ Arranges (now (img .entry)) g from (now (keys .exit)) r ⌝ }
+{
+    match gather(img, sums, g, from, keys) {
+        Gathered::Bad => Arranged::Bad,
+        Gathered::From(i) => {
+            let apart = order(img, from.edition, from.at, keys, i, tmp);
+            Arranged::From(i, apart)
+        }
+    }
+}
+
 // Regions judged; if they are sound, their keys stand in order from a place of the lent slice on.
 pub enum Regions {
     Unsound,
@@ -206,10 +233,10 @@ pub fn judge_regions(
     requires { ⌜ Bounded g × Walks (now img) from × (from .left ≤ length (now keys)) × (length (now keys) ≤ length (now tmp)) × SumsFrom (now img) (now sums) from ⌝ }
     ensures { λ r. ⌜ JudgesRegions (now (img .entry)) g from (now (keys .exit)) r ⌝ }
 {
-    match gather(img, sums, g, from, keys) {
-        Gathered::Bad => Regions::Unsound,
-        Gathered::From(i) => {
-            if !order(img, from.edition, from.at, keys, i, tmp) {
+    match arrange(img, sums, g, from, keys, tmp) {
+        Arranged::Bad => Regions::Unsound,
+        Arranged::From(i, apart) => {
+            if !apart {
                 return Regions::Unsound;
             }
             Regions::From(i)

@@ -1,4 +1,4 @@
--- The rules, in the order of document 01's sections, with what K4's editions differ in before them; K5's report and what K3 counts come last. Each module states its rules; its `Laws` are what proofs go by.
+-- The rules, in the order of document 01's sections, with what K4's editions differ in before them; K5's report, K6's table and what K3 counts come last. Each module states its rules; its `Laws` are what proofs go by.
 pub mod Lists
 pub mod Text
 pub mod Fields
@@ -18,4 +18,5 @@ pub mod History
 pub mod Dates
 pub mod Listing
 pub mod Report
+pub mod RegionTable
 pub mod Comparing

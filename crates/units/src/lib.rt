@@ -11,7 +11,8 @@ pub const LONGEST: u64 = 16_777_216;
 // The bytes of a slot of the index area.
 pub const SLOT_BYTES: u64 = 64;
 
-// A block number, from the start of the media, or the block past a region's end.
+// A block number, from the start of the media, or the block past a region's end. A table of regions that C lends has it as a number.
+#[repr(C)]
 pub struct Block(u64);
 
 // A slot number of the index area.

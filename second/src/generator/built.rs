@@ -2,7 +2,7 @@
 //! types, long names, runs longer than their names, gaps between regions, newer versions, deleted
 //! entries of a path by the two and three or without their directory, stray slots and wrong sums.
 
-use super::{least_reserved, odd_path, path_of_length, right_sum, text, volume_name, Known, Writer};
+use super::{least_reserved, odd_path, path_of_length, regions, right_sum, text, volume_name, Known, Writer};
 use crate::bytes::put;
 use crate::edition::{Edition, SUM_AT};
 use crate::index::{self, DELETED_DIRECTORY, DELETED_FILE, DIRECTORY, DIRECTORY_NAME_AT, FILE, IDENTIFIER, MARKER};
@@ -79,6 +79,7 @@ fn nearly_full_index(w: &mut Writer) {
     w.reclaim();
     bring_back(w);
     w.list_each(2);
+    regions::close(w);
 }
 
 const VERSION_1_0_ONLY: u64 = 0;
@@ -345,6 +346,7 @@ fn probe(w: &mut Writer) {
     w.list_each(4);
     w.listing();
     w.put("history".to_string());
+    regions::close(w);
 }
 
 /// Restores a deleted entry, or deletes a live one and undoes it to the byte.

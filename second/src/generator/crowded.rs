@@ -13,7 +13,7 @@ use crate::xorshift::Xorshift;
 use std::collections::BTreeSet;
 
 /// The slots between the marker and the identifier of the largest index.
-const MOST_SLOTS: u64 = MOST_INDEX / SLOT - 2;
+pub const MOST_SLOTS: u64 = MOST_INDEX / SLOT - 2;
 /// From so many slots on a volume is large: its blocks are small and its calls few, as each costs time.
 const LARGE: u64 = 400;
 /// From so many on the blocks are not the largest, so that the image stays small.
@@ -343,7 +343,7 @@ impl Mix {
     }
 }
 
-fn shuffle<T>(rng: &mut Xorshift, items: &mut [T]) {
+pub fn shuffle<T>(rng: &mut Xorshift, items: &mut [T]) {
     for place in (1..items.len()).rev() {
         items.swap(place, rng.below(place as u64 + 1) as usize);
     }

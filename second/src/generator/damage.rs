@@ -1,7 +1,7 @@
 //! A healthy volume with one field damaged at a time; after a few calls it is made whole again. At times it is cut last.
 
 use super::edges::cut_short;
-use super::{least_reserved, text, volume_name, Known, Writer};
+use super::{least_reserved, regions, text, volume_name, Known, Writer};
 use crate::index::{self, COUNT_AT, END_AT, LENGTH_AT, START_AT, UNUSABLE};
 use crate::superblock::{Geometry, BLOCK_SIZE, CHECKSUM, DATA, INDEX, MAGIC, RESERVED, STAMP, TOTAL, VERSION};
 use crate::volume::Volume;
@@ -43,7 +43,9 @@ pub fn scene(w: &mut Writer) {
     w.put("history".to_string());
     if w.rng.chance(25) {
         cut_short(w);
+        return regions::close(w);
     }
+    regions::close_after(w, |w| damage(w, &healthy));
 }
 
 /// A volume and so many damages of it, one at a time, each of them looked at so.

@@ -1,7 +1,7 @@
 //! Histories: a format, then calls of all sorts until slots or blocks run out, then a look at
 //! everything that is left and the check of the history.
 
-use super::{least_reserved, odd_path, path_of_length, restore, text, volume_name, Writer};
+use super::{least_reserved, odd_path, path_of_length, regions, restore, text, volume_name, Writer};
 use crate::edition::Edition;
 use crate::script::hex;
 
@@ -39,6 +39,7 @@ pub fn scene(w: &mut Writer) {
         step(w, mode, block);
     }
     closing(w);
+    regions::close(w);
 }
 
 /// An image, at times full of stale bytes, and an accepted format.

@@ -10,8 +10,10 @@ mod editions;
 mod history;
 mod lists;
 mod names;
+mod regions;
 mod reports;
 mod restore;
+mod spans;
 mod sums;
 mod tails;
 mod text;
@@ -42,7 +44,7 @@ const fn family(name: &'static str, weight: u64, newer: u64, scene: Scene) -> Fa
     Family { name, weight, newer, scene }
 }
 
-const FAMILIES: [Family; 12] = [
+const FAMILIES: [Family; 13] = [
     family("history", 40, 35, history::scene),
     family("damage", 20, 35, damage::scene),
     family("built", 20, 35, built::scene),
@@ -56,6 +58,7 @@ const FAMILIES: [Family; 12] = [
     family("sums", 24, 100, sums::scene),
     family("editions", 16, 65, editions::scene),
     family("report", 10, 50, reports::scene),
+    family("regions", 10, 40, regions::scene),
 ];
 
 /// In a hundred calls of a scene, how many have report calls behind them; and the longest image that is so counted, as
@@ -101,7 +104,8 @@ pub struct Known {
 /// Writes a script while following it.
 pub struct Writer {
     pub rng: Xorshift,
-    /// For the reports between the calls of a scene, so that the scene is the same with and without them.
+    /// For the reports between the calls of a scene and the tables behind them, so that the scene is the same with and
+    /// without them.
     aside: Xorshift,
     /// The edition of the scene: what its volumes are formatted in or built in.
     pub edition: Edition,

@@ -156,7 +156,7 @@ fn full(w: &mut Writer) {
 }
 
 /// Refusals 1 to 5, whatever the index holds.
-fn fault(w: &mut Writer) {
+pub fn fault(w: &mut Writer) {
     let Some(edition) = Edition::of_image(w.image()) else { return };
     w.edition = edition;
     let field = |field| edition.super_field(field);

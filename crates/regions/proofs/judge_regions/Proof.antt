@@ -1,53 +1,24 @@
-use Prim.Native.Nat.{_≤_}
-use mathlib.Core.Bool.{true}
-use mathlib.Core.Path.{_≡_}
-use native.Mathlib.Omega.{arith}
-use lib.ListN.{length, drop}
 use borrow.Author.Tests.{not-true, not-false}
 use borrow.Author.Needs.{needs}
-use denote.Ref.{now}
-use Rattle.rules.specs.Lists.{all}
-use Rattle.rules.specs.Regions.{regionGood, regionsSound}
-use Rattle.geometry.specs.View.{geometryView}
-use Rattle.index.specs.Steps.{entriesFrom}
-use Rattle.regions.specs.Gathering.{JudgesRegions, regionKeys, gathers-bad, gathers-from, ordered-unsound, ordered-from}
+use Rattle.regions.specs.Gathering.{bad-unsound, shared-unsound, apart-sound}
 use Rattle.regions.proofs.judge_regions.Statement.{statement}
 use Rattle.regions.proofs.judge_regions.Tie as tie
 
-abbrev first : tie.After-i → tie.Start
-first c = c .before .before .before .before .before .before .before .before .before .before
-
--- what was gathered
-gathered : (c : tie.After-i) → let a = first c .args in let k = c .before .before .before .before .gather .last .1 .1 .1 .1 .0 in
-    (all (regionGood (geometryView (a .g))) (entriesFrom (now (a .img)) (a .from)) ≡ true)
-    × (c .i .given .0 .0 ≤ length k) × (drop (c .i .given .0 .0) k ≡ regionKeys (entriesFrom (now (a .img)) (a .from)))
-gathered c = gathers-from _ _ _ _ _ (c .before .before .before .before .gather .ensures) _ (c .i .given .1)
-
-order-requires : tie.Need-order-requires
-order-requires c κs =
-    let i = c .before .before .before in
-    let w = first i .pre .1 .inside in
-    (gathered i .1, omega arith, omega (arith, w .fits, w .short))
+abbrev arranged : tie.After-i → tie.After-arrange
+arranged c = c .before .before .before .before .before .before
 
 returns : tie.Need-returns
 returns c =
-    let o = c .before .before .before .before .before in
-    let i = o .before .before .before .before in
-    let a = first i in
-    let h = gathered i in
-    ordered-unsound (now (a .args .img)) _ (a .pre .0) (a .args .from) (h .0) _ _ (h .2) _ (o .order .ensures) (not-true _ (c .if1 .taken)) _
+    let i = c .before .before in
+    shared-unsound _ _ _ _ _ (arranged i .arrange .ensures) _ _ (i .i .given .1) (not-true _ (c .if1 .taken))
 
 returns-2 : tie.Need-returns-2
-unfolding JudgesRegions regionsSound
-returns-2 c = rw (gathers-bad _ _ _ _ _ (c .before .before .before .before .gather .ensures) (c .enum-told .given .1))
+returns-2 c = bad-unsound _ _ _ _ _ (c .before .before .before .before .before .before .arrange .ensures) (c .enum-told .given .1)
 
 returns-3 : tie.Need-returns-3
 returns-3 c =
-    let o = c .before .before .before .before .before in
-    let i = o .before .before .before .before in
-    let a = first i in
-    let h = gathered i in
-    ordered-from (now (a .args .img)) _ (a .pre .0) (a .args .from) (h .0) _ _ _ (h .2) _ (o .order .ensures) (not-false _ (c .if1 .left))
+    let i = c .before .before in
+    apart-sound _ _ _ _ _ (arranged i .arrange .ensures) _ _ (i .i .given .1) (not-false _ (c .if1 .left))
 
 pub judge-regions-spec : {M : Type 1} → statement M
 judge-regions-spec =
@@ -56,10 +27,10 @@ judge-regions-spec =
     (λ c κs. search needs)
     (λ c. search needs)
     (λ c. search needs)
-    order-requires
     (λ c. search needs)
     (λ c. search needs)
     returns
+    (λ c. search needs)
     (λ c. search needs)
     returns-2
     (λ c. search needs)
