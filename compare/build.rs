@@ -1,4 +1,4 @@
-//! Links the static library that `rt staticlib sfs` wrote. With `SFS_BEFORE` set to the static library of another commit (an absolute
+//! Links the static libraries that `rt staticlib sfs` and `rt staticlib region_table` wrote. With `SFS_BEFORE` set to the static library of another commit (an absolute
 //! path), that one is linked beside it under names of its own, so that the benchmark times both in one run. It must have every call that
 //! is declared here, or the linker names the one that it lacks, and the same `SFS_API`, or the benchmark refuses it: the declarations of
 //! this commit are used for both. Times of an older library come from the benchmark of its own commit.
@@ -13,8 +13,10 @@ const DECLARATIONS: &str = "src/library.rs";
 fn main() {
     let root = env::var("CARGO_MANIFEST_DIR").unwrap_or_default();
     println!("cargo:rustc-link-search=native={root}/../target/staticlib");
-    println!("cargo:rustc-link-lib=static=sfs");
-    println!("cargo:rerun-if-changed={root}/../target/staticlib/libsfs.a");
+    for library in ["sfs", "region_table"] {
+        println!("cargo:rustc-link-lib=static={library}");
+        println!("cargo:rerun-if-changed={root}/../target/staticlib/lib{library}.a");
+    }
     println!("cargo:rerun-if-changed={DECLARATIONS}");
     println!("cargo:rerun-if-env-changed=SFS_BEFORE");
     println!("cargo:rustc-check-cfg=cfg(before)");

@@ -1,7 +1,8 @@
-//! The proved library behind its C interface, as declared in `include/sfs.h`.
+//! The proved library behind its C interface, as declared in `include/sfs.h`, and beside it the engines for shared blocks.
 
+use crate::engines;
 use second::store::Store;
-use second::{Found, Opened, Read, Written};
+use second::{Found, Opened, Read, TableRegion, Tabled, Written};
 
 #[repr(C)]
 struct Volume {
@@ -196,5 +197,17 @@ impl Store for Library {
 
     fn report_text(&self, report: &[u64], out: &mut [u8]) -> Read {
         content(unsafe { sfs_report_text(report.as_ptr(), report.len(), out.as_mut_ptr(), out.len()) })
+    }
+
+    fn regions(&self, image: &[u8], table: &mut [TableRegion]) -> Tabled {
+        engines::in_table(image, table)
+    }
+
+    fn sharing(&self, image: &[u8]) -> Written {
+        engines::apart(image)
+    }
+
+    fn sharing_plain(&self, image: &[u8]) -> Written {
+        engines::apart_plainly(image)
     }
 }

@@ -1,9 +1,10 @@
 //! `compare SEED CALLS [KIND]`: a generated script on both stores, line by line, over both editions. The first difference ends the run
 //! and prints a script that shows it; without one it says how often restore gave each answer, how often calls on volumes of edition
-//! 1.10 did, and how often adding an image to a report did. `compare counts SEED CALLS [KIND]`: the same, but it says how often each
-//! call gave each answer in each edition. `compare bench`: the calls on 16 MiB volumes of several looks and sizes (those alone whose
-//! names begin with VOLUMES, if it is given), all programs in one run. `compare names`: the name rule by both programs and by Rust's
-//! own reading of UTF-8, on every short string.
+//! 1.10 did, how often adding an image to a report did, and how often tables of regions were answered so. `compare counts SEED CALLS
+//! [KIND]`: the same, but it says how often each call gave each answer in each edition. `compare bench`: the calls on 16 MiB volumes of
+//! several looks and sizes (those alone whose names begin with VOLUMES, if it is given), and the engines for shared blocks, all programs in
+//! one run; `compare regions`: these engines alone. `compare names`: the name rule by both programs and by Rust's own reading of UTF-8, on
+//! every short string.
 
 #[cfg(before)]
 #[allow(dead_code)]
@@ -11,18 +12,20 @@ mod before {
     include!(concat!(env!("OUT_DIR"), "/before.rs"));
 }
 mod bench;
+mod engines;
 mod library;
 mod names;
 
 use library::Library;
 use second::generator;
 use second::script::{Session, REPORT_ROOM};
-use second::selftest::{call_table, newer_table, report_table, restore_table};
+use second::selftest::{call_table, newer_table, region_table, report_table, restore_table};
 use second::Edition;
 use std::process::ExitCode;
 
-const USAGE: &str = "usage: compare [counts] SEED CALLS [history|damage|built|edges|args|names|restore|tails|crowded|sums|editions|report]
+const USAGE: &str = "usage: compare [counts] SEED CALLS [history|damage|built|edges|args|names|restore|tails|crowded|sums|editions|report|regions]
        compare bench [VOLUMES]
+       compare regions
        compare names";
 
 fn main() -> ExitCode {
@@ -32,6 +35,7 @@ fn main() -> ExitCode {
         ["bench"] => bench::run(""),
         ["bench", volumes] => bench::run(volumes),
         ["names"] => names::run(),
+        ["regions"] => bench::of_regions(),
         ["counts", seed, calls] => compare(seed, calls, None, counts),
         ["counts", seed, calls, kind] => compare(seed, calls, Some(kind), counts),
         [seed, calls] => compare(seed, calls, None, tables),
@@ -55,7 +59,7 @@ type Told = fn(&Session) -> String;
 
 fn tables(own: &Session) -> String {
     let newer = newer_table(&own.answers_in(Edition::V1_10));
-    restore_table(&own.answers("restore")) + &newer + &report_table(&own.answers("reportadd"))
+    restore_table(&own.answers("restore")) + &newer + &report_table(&own.answers("reportadd")) + &region_table(&own.answers("regions"))
 }
 
 fn counts(own: &Session) -> String {

@@ -1,5 +1,6 @@
 //! `include/sfs.h` against the exports of the Rattle source, and against the declarations that `compare` links with: every function's
-//! arguments and answer and every struct's fields, in name, order, width and sign.
+//! arguments and answer and every struct's fields, in name, order, width and sign. The engines for shared blocks are no part of the library:
+//! their declarations are held against their own crate.
 //!
 //! Each side is read into a line of text for each declaration, in the words of Rust, and the lines are compared. A word that a reader
 //! does not know stays as it is, and so is a difference.
@@ -113,10 +114,11 @@ fn code(text: &str) -> String {
     plain(text.lines().map(|line| line.split("//").next().unwrap_or_default()).collect()).replace("pub ", "")
 }
 
-/// The fields of every struct laid out as in C, by its name.
+/// The fields of every struct laid out as in C, by its name; a struct without names for its fields stands inside others alone.
 fn structs(text: &str) -> Result<BTreeMap<&str, String>, String> {
     let mut found = BTreeMap::new();
-    for part in text.split("#[repr(C)] struct ").skip(1) {
+    let nameless = |part: &&str| part.trim_start_matches(char::is_alphanumeric).starts_with('(');
+    for part in text.split("#[repr(C)] struct ").skip(1).filter(|part| !nameless(part)) {
         let (name, fields) = cut(part, " {")?;
         if found.insert(name, rust_list(cut(fields, "}")?.0)?).is_some() {
             return Err(format!("two structs {name}"));
@@ -158,6 +160,7 @@ fn rust_list(text: &str) -> Result<String, String> {
             (name, "&mut [u8]") => format!("{name}: *mut u8, {name}_len: usize"),
             (name, "&[u64]") => format!("{name}: *const u64, {name}_len: usize"),
             (name, "&mut [u64]") => format!("{name}: *mut u64, {name}_len: usize"),
+            (name, "&mut [Region]") => format!("{name}: *mut Region, {name}_len: usize"),
             (name, kind) => format!("{name}: {kind}"),
         });
     }
@@ -170,12 +173,18 @@ fn path(of: &str) -> PathBuf {
     Path::new(env!("CARGO_MANIFEST_DIR")).join("..").join(of)
 }
 
-/// Every Rattle file of the crates, wherever it stands.
+/// The crate whose exports are not the library's.
+const ENGINES: &str = "crates/region_table";
+
+/// Every Rattle file of the crates, wherever it stands, but those of the engines.
 fn rattle_files() -> io::Result<String> {
     let (mut folders, mut text) = (vec![path("crates")], String::new());
     while let Some(folder) = folders.pop() {
         for entry in fs::read_dir(folder)? {
             let path = entry?.path();
+            if path.ends_with(ENGINES) {
+                continue;
+            }
             if path.is_dir() {
                 folders.push(path);
             } else if path.extension().is_some_and(|ending| ending == "rt") {
@@ -201,6 +210,18 @@ fn header_is_the_rattle_source() {
 #[test]
 fn header_is_what_compare_links() {
     alike(rust(&fs::read_to_string(path("compare/src/library.rs")).unwrap()));
+}
+
+#[test]
+fn engines_are_what_compare_links() {
+    let source = fs::read_to_string(path(ENGINES).join("src/lib.rt")).unwrap();
+    let exports = rattle(&source).unwrap();
+    assert!(exports.contains_key("regions_in_table") && exports.contains_key("sfs_table_answer"), "{exports:?}");
+    let found = differences(&exports, &rust(&fs::read_to_string(path("compare/src/engines.rs")).unwrap()).unwrap());
+    assert!(found.is_empty(), "{}", found.join("\n"));
+    // A place of a table: two blocks, each a number.
+    assert_eq!(structs(&code(&source)).unwrap()["Region"], "start: Block, end: Block");
+    assert!(code(&fs::read_to_string(path("crates/units/src/lib.rt")).unwrap()).contains("#[repr(C)] struct Block(u64);"));
 }
 
 const IN_C: &str = "#include <x.h>\nextern \"C\" {\n/* Kinds; */ enum kind { A = 0, B = 1 };\n

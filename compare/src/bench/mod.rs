@@ -1,7 +1,9 @@
 //! The calls, timed on volumes of several looks and sizes and of both editions: the programs one after the other, in one run. A line for
-//! each volume, size, call and program, times in milliseconds, fields parted by tabs.
+//! each volume, size, call and program, times in milliseconds, fields parted by tabs. Behind them the longest name, and the engines for shared
+//! blocks.
 
 mod long_name;
+mod regions;
 mod volumes;
 
 use crate::library::Library;
@@ -102,7 +104,12 @@ pub fn run(volumes: &str) -> Result<String, String> {
     for (fields, time) in table.lines {
         text += &format!("\n{fields}\t{:.4}", millis(time));
     }
-    Ok(text + "\n" + &long_name::run()?)
+    Ok(text + "\n" + &long_name::run()? + "\n" + &regions::run()?)
+}
+
+/// The engines for shared blocks alone.
+pub fn of_regions() -> Result<String, String> {
+    regions::run()
 }
 
 /// 1 MiB copied by the machine out of an image and into it, from where a read of the first volume reads and to where a create on it writes: where

@@ -2,7 +2,7 @@
 //! two are a file of 1 MiB, to read, and a deleted file, to restore and to reclaim. In edition 1.10 the deleted one is an unused slot that a
 //! call that writes makes look so, and that a create takes.
 
-use second::index::{COUNT_AT, DELETED_DIRECTORY, DELETED_FILE, DIRECTORY, DIRECTORY_NAME_AT, END_AT, FILE, FILE_NAME_AT, LENGTH_AT, MARKER, START_AT};
+use second::index::{COUNT_AT, DELETED_DIRECTORY, DELETED_FILE, DIRECTORY, DIRECTORY_NAME_AT, END_AT, FILE, FILE_NAME_AT, LENGTH_AT, MARKER, START_AT, UNUSABLE};
 use second::edition::SUM_AT;
 use second::superblock::{DATA, INDEX};
 use second::xorshift::Xorshift;
@@ -187,10 +187,28 @@ fn shuffle(mut entries: Vec<Entry>) -> Vec<Entry> {
     entries
 }
 
-fn permute<T>(list: &mut [T], random: &mut Xorshift) {
+pub fn permute<T>(list: &mut [T], random: &mut Xorshift) {
     for place in (1..list.len()).rev() {
         list.swap(place, random.below(place as u64 + 1) as usize);
     }
+}
+
+/// Blocks from the first up to, not including, the second.
+pub type Extent = (usize, usize);
+
+/// A volume of edition 1.0 whose index has an entry for each region, in this order: live files, deleted files and unusable entries by turns; before them, if
+/// it is wanted, a directory of the longest name that there is.
+pub fn of_regions(extents: &[Extent], behind: bool) -> Result<Vec<u8>, String> {
+    let mut entries = Vec::new();
+    if behind {
+        entries.push(Entry { kind: DIRECTORY, path: vec![b'd'; 256 * SLOT - DIRECTORY_NAME_AT - 1], start: 0, bytes: 0 });
+    }
+    entries.extend(extents.iter().enumerate().map(|(place, &(start, end))| {
+        let kind = [FILE, DELETED_FILE, UNUSABLE][place % 3];
+        let path = if kind == UNUSABLE { Vec::new() } else { format!("{place:05}").into_bytes() };
+        Entry { kind, path, start, bytes: (end - start) * BLOCK }
+    }));
+    Ok(laid(&entries, Edition::V1_0)?.0)
 }
 
 /// The image whose index has these entries in their slots, one behind the other, and its index in bytes.
