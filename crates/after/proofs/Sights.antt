@@ -10,11 +10,11 @@ use Rattle.rules.specs.Lists.Laws.{only-no}
 use Rattle.rules.specs.SuperBlock.{Geometry, blockLength}
 use Rattle.rules.specs.SuperBlock.Laws.{GoodGeometry}
 use Rattle.rules.specs.Index.{Entry, runType, deletedType, typeUnusable}
-use Rattle.rules.specs.Regions.{regionsSound}
+use Rattle.rules.specs.Regions.{Extent, extentOf, regionsSound}
 use Rattle.rules.specs.Reading.{fileBytes}
 use Rattle.rules.specs.Paths.{isDeleted}
 use Rattle.rules.specs.Writing.{undeleted}
-use Rattle.after.specs.After.{isNamed, seen, Extent, extentOf, isUnusable}
+use Rattle.after.specs.After.{isNamed, seen, isUnusable}
 use Rattle.laws.proofs.Lists.Parts.{map-map, only-map, only-only, only-ext}
 use Rattle.laws.proofs.Lists.Every.{map-ext, all-of, all-weaken, all-and, all-only}
 use Rattle.laws.proofs.Entries.EntryKinds.{run-usable}

@@ -6,7 +6,8 @@ use Rattle.rules.specs.Lists.{only}
 use Rattle.rules.specs.Refusals.{Volume, entries}
 use Rattle.rules.specs.Refusals.Laws.{Opens}
 use Rattle.rules.specs.Writing.Laws.{tidyImage}
-use Rattle.after.specs.After.{isNamed, seen, sight, isUnusable, extentOf, unusables}
+use Rattle.rules.specs.Regions.{extentOf}
+use Rattle.after.specs.After.{isNamed, seen, sight, isUnusable, unusables}
 use Rattle.laws.proofs.Lists.Every.{all-weaken, all-only, map-ext}
 use Rattle.laws.proofs.Images.Tidying.{settledVolume, settled-entries, tidied-bytes}
 use Rattle.after.proofs.Sights.{seen-same}

@@ -11,7 +11,7 @@ use Rattle.rules.specs.Fields.{Bytes}
 use Rattle.rules.specs.Editions.{Edition, editionNamed, keepsDeleted}
 use Rattle.rules.specs.SuperBlock.{Geometry, blockLength}
 use Rattle.rules.specs.Index.{Entry, runType, typeUnusable}
-use Rattle.rules.specs.Regions.{blocksOf}
+use Rattle.rules.specs.Regions.{Extent, extentOf, blocksOf}
 use Rattle.rules.specs.Names.{pathGood}
 use Rattle.rules.specs.Paths.{isLive, deletedAt, lookup}
 use Rattle.rules.specs.Refusals.{accepted, Volume, entries, judge}
@@ -37,14 +37,6 @@ seen s g e = record {
 -- all that it sees of a volume
 unfoldable pub sight : List ℕ → Volume → List Kept
 sight s v = map (seen s (v .geometry)) (only isNamed (entries v))
-
--- the blocks from start up to, not including, end
-pub record Extent : Type 0 where
-  pub start : ℕ
-  pub end : ℕ
-
-unfoldable pub extentOf : Entry → Extent
-extentOf e = record { start = e .start; end = e .end }
 
 unfoldable pub isUnusable : Entry → Bool
 isUnusable e = eqb (e .kind) typeUnusable

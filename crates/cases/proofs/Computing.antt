@@ -6,7 +6,7 @@ use Rattle.rules.specs.SuperBlock.{lengthGood, writable, geometryOf, blockBytes
 use Rattle.rules.specs.Utf8.{within, isCode, encode, encodeAll, tails, row, firstChar, also, onward, decodeTo, decode}
 use Rattle.rules.specs.Names.{isMark, codeGood, codesGood, textGood, intoFirst, parts, partGood, pathGood, newPathGood, volumeTextGood, volumeNameGood, leadIf, leading, isBelow}
 use Rattle.rules.specs.Index.{fileType, directoryType, runType, liveType, deletedType, strayType, staleType, nameAt, runSlots, runField, nameField, fileField, entryAt, unusableAt, nameGood, runWhole, runAt, unusableItem, staleSlots, itemAt, followed, walk, walkAll, slotAt, innerSlots, itemsOf, entriesOf, isFault, identifierAt, volumeField, volumeName, volumeStamp, identifierGood, markerGood, indexSound, entryBytes, markerBytes, identifierBytes, unusedBytes, continuing, regionBytes, runBytes, retyped}
-use Rattle.rules.specs.Regions.{holds, blocksOf, withinData, fileRegionGood, regionGood, apart, regionsSound, heldBlocks, busy, runFree, lowestFrom, lowestFree, blocksNeeded}
+use Rattle.rules.specs.Regions.{extentOf, holds, blocksOf, withinData, fileRegionGood, regionGood, apart, regionsSound, heldBlocks, busy, runFree, lowestFrom, lowestFree, blocksNeeded}
 use Rattle.rules.specs.Paths.{isLive, liveAt, isDeleted, deletedAt, lookup, isDirectoryAt, directoryLive, directoriesLive, pathsDiffer, pathsSound, anyBelow, liveFrom, nextLive}
 use Rattle.rules.specs.Refusals.{need, needFound, andThen, magicGood, editionOf, versionGood, checksumGood, judgeIndex, judgeSuper, judgeGeometry, judge, judgeRead, judgeAs}
 use Rattle.rules.specs.Outcome.{done, conclude, onVolume, noVolume, noEntry, numbersOf, noneListed}
@@ -18,7 +18,7 @@ use Rattle.rules.specs.Text.{digit, digits, decimal, widened}
 use Rattle.rules.specs.Dates.{floorDiv, floorMod, divides, leapYear, yearLength, monthLength, countOff, yearOff, monthOff, dateIn, dateOf, secondsOf, daysOf, secondOfDay, momentOf, yearText, twoDigits, momentText}
 use Rattle.rules.specs.Listing.{lineOf, linesOf, countLine, refusedLine, volumeText, listingOf, textOf}
 use Rattle.rules.specs.Report.{entryKind, itemKind, slotsIn, blocksIn, bytesIn, sumsOfKind, sumsOf, openedSums, imageSums, added, oneMore, countVerdict, noReport, withImage, withSource, reportFrom, sourceSums, totals, numbersLine, tableLines, kindWords, pairs, countLines, reportText, reportOf, linesAfter, namesOf, nameOfFile, sourceOf, outputOf, reportIn, reportNumbers, verdictNumber, countImage, reportTextOf}
-use Rattle.rules.specs.RegionTable.{extentOf, extentsOf, extentLe, inserted, inOrder, apartNumber, untabled, tabled, judgeBounds, tableBy, tableOf, sharingBy, sharingOf}
+use Rattle.rules.specs.RegionTable.{regionsOf, extentLe, inserted, inOrder, apartNumber, untabled, tabled, judgeBounds, tableBy, tableOf, sharingBy, sharingOf}
 use Rattle.rules.specs.Comparing.{atLast, lastAlike, goesOn, walked, looked, nameIn, met, entryLooked, searchLooked, findLooked}
 
 -- All definitions of the rules by one name: a theorem that says `unfolding everything` computes through them.
@@ -37,7 +37,7 @@ unfolding
     unusableAt nameGood runWhole runAt unusableItem staleSlots itemAt followed walk walkAll slotAt innerSlots itemsOf entriesOf
     isFault identifierAt volumeField volumeName volumeStamp identifierGood markerGood indexSound entryBytes markerBytes
     identifierBytes unusedBytes continuing regionBytes runBytes retyped
-    holds blocksOf withinData fileRegionGood regionGood apart regionsSound heldBlocks busy runFree lowestFrom lowestFree
+    extentOf holds blocksOf withinData fileRegionGood regionGood apart regionsSound heldBlocks busy runFree lowestFrom lowestFree
     blocksNeeded
     isLive liveAt isDeleted deletedAt lookup isDirectoryAt directoryLive directoriesLive pathsDiffer pathsSound anyBelow liveFrom nextLive
     need needFound andThen magicGood editionOf versionGood checksumGood judgeIndex judgeSuper judgeGeometry judge judgeRead judgeAs
@@ -54,6 +54,6 @@ unfolding
     lineOf linesOf countLine refusedLine volumeText listingOf textOf
     entryKind itemKind slotsIn blocksIn bytesIn sumsOfKind sumsOf openedSums imageSums added oneMore countVerdict noReport withImage withSource reportFrom sourceSums totals
     numbersLine tableLines kindWords pairs countLines reportText reportOf linesAfter namesOf nameOfFile sourceOf outputOf reportIn reportNumbers verdictNumber countImage reportTextOf
-    extentOf extentsOf extentLe inserted inOrder apartNumber untabled tabled judgeBounds tableBy tableOf sharingBy sharingOf
+    regionsOf extentLe inserted inOrder apartNumber untabled tabled judgeBounds tableBy tableOf sharingBy sharingOf
     atLast lastAlike goesOn walked looked nameIn met entryLooked searchLooked findLooked
 everything = tt

@@ -4,7 +4,8 @@ use mathlib.Core.Path.{_≡_, refl}
 use mathlib.Core.List.{List, [], _∷_}
 use lib.IntN.{pos}
 use Rattle.rules.specs.Index.{Entry, typeFile}
-use Rattle.rules.specs.RegionTable.{Extent, Tabled, tabled}
+use Rattle.rules.specs.Regions.{Extent}
+use Rattle.rules.specs.RegionTable.{Tabled, tabled}
 use Rattle.cases.proofs.Computing.{everything}
 
 -- a file with the blocks from a up to, not including, b

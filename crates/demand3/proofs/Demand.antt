@@ -5,7 +5,8 @@ use native.Mathlib.Omega.{arith}
 use Rattle.rules.specs.Refusals.{entries}
 use Rattle.rules.specs.Refusals.Laws.{judge-opens}
 use Rattle.rules.specs.History.{History, nothing, nameOfKept, ReadsBack, Holds, Demand3}
-use Rattle.after.specs.After.{Extent, AfterFormat, AfterCreate, AfterDelete, AfterRestore, AfterReclaim}
+use Rattle.rules.specs.Regions.{Extent}
+use Rattle.after.specs.After.{AfterFormat, AfterCreate, AfterDelete, AfterRestore, AfterReclaim}
 use Rattle.laws.proofs.Lists.Perms.{perm-all, perm-map, perm-only, perm-sum}
 use Rattle.laws.proofs.Entries.Walked.{settled-entries}
 use Rattle.demand3.proofs.Seen.{seen-blocks, files-apart, seen-names}

@@ -13,7 +13,8 @@ use Rattle.rules.specs.Refusals.{accepted, Volume, judge}
 use Rattle.rules.specs.Writing.{New, formatOf, createOf, deleteOf, restoreOf, reclaimOf}
 use Rattle.rules.specs.History.{Call, format, openVolume, find, list, listAll, read, create, delete, restore, reclaim, passed, step, keptAt, marked, markedIn, struckIn, revived, Kept, History, fed, feed, run, told}
 use Rattle.rules.specs.History.Laws.{Balanced, balanced-fed}
-use Rattle.after.specs.After.{Left, Extent, sight, unusables, AfterFormat, AfterCreate, AfterDelete, AfterRestore, AfterReclaim}
+use Rattle.rules.specs.Regions.{Extent}
+use Rattle.after.specs.After.{Left, sight, unusables, AfterFormat, AfterCreate, AfterDelete, AfterRestore, AfterReclaim}
 use Rattle.laws.proofs.Lists.Perms.{perm-map, perm-only}
 use Rattle.demand3.proofs.Calls.{open-image, find-image, list-image, list-all-image, read-image, format-refused, create-refused, delete-refused, restore-refused, reclaim-refused}
 

@@ -5,3 +5,4 @@ pub mod Images
 pub mod Listing
 pub mod Records
 pub mod Report
+pub mod RegionTable

@@ -7,7 +7,8 @@ use native.Mathlib.Omega.{arith}
 use native.Mathlib.Decide.{decLt}
 use Rattle.rules.specs.Lists.{only, All, Pairs, Perm}
 use Rattle.rules.specs.Index.{Entry}
-use Rattle.rules.specs.RegionTable.{Extent, extentOf, extentsOf, extentLe, inOrder}
+use Rattle.rules.specs.Regions.{Extent, extentOf}
+use Rattle.rules.specs.RegionTable.{regionsOf, extentLe, inOrder}
 use Rattle.rules.specs.RegionTable.Laws.{Comes, lower, level, le-holds, in-order-only}
 use Rattle.laws.proofs.Lists.Every.{all-weaken, pairs-map, map-ext}
 use Rattle.laws.proofs.Lists.Parts.{map-map}
@@ -37,8 +38,8 @@ key-le a b h = le-holds _ _ (parts-le (a / 65_536) (b / 65_536) h (decLt (a / 65
 
 -- THE TABLE: the regions that the keys of entries say, where the keys ascend, are those of the entries in order
 pub keys-in-order : (es : List Entry) (ks : List ℕ) → All Small es → Perm (map regionKey (only hasRegion es)) ks → Pairs (λ a b. a / 65_536 ≤ b / 65_536) ks
-    → map keyExtent ks ≡ inOrder (extentsOf es)
-unfolding extentsOf hasRegion
+    → map keyExtent ks ≡ inOrder (regionsOf es)
+unfolding regionsOf hasRegion
 keys-in-order es ks small p ascends =
     sym (ap inOrder (sym (same-extents (only hasRegion es) (all-keyed es small)))
     ∙ in-order-only (map keyExtent (map regionKey (only hasRegion es))) (map keyExtent ks) (perm-map keyExtent p)

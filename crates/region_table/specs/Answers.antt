@@ -11,9 +11,9 @@ use borrow.Author.Tests.{ltb-true, ltb-false}
 use Rattle.rules.specs.Lists.{all, everyTwo}
 use Rattle.rules.specs.Lists.Laws.{pick-true, pick-false}
 use Rattle.rules.specs.Index.{Entry, itemsOf, entriesOf}
-use Rattle.rules.specs.Regions.{regionGood, regionsSound, apart}
+use Rattle.rules.specs.Regions.{Extent, regionGood, regionsSound, apart}
 use Rattle.rules.specs.Refusals.{refused, accepted}
-use Rattle.rules.specs.RegionTable.{Extent, extentsOf, inOrder, apartNumber, untabled, judgeBounds, tableOf, sharingOf}
+use Rattle.rules.specs.RegionTable.{regionsOf, inOrder, apartNumber, untabled, judgeBounds, tableOf, sharingOf}
 use Rattle.rules.specs.RegionTable.Laws.{bounds-bad-regions, bounds-good, table-refused, table-short, table-told, sharing-sound, sharing-unsound}
 use Rattle.ordering.specs.Tables.{keyExtent, keys-in-order}
 use Rattle.geometry.specs.declared.Geometry.{Geometry}
@@ -24,7 +24,7 @@ use Rattle.super_block.specs.View.{SuperGood}
 use Rattle.regions.specs.Gathering.{HasRegions}
 use Rattle.region_table.specs.declared.TableAnswer.{TableAnswer}
 use Rattle.region_table.specs.View.{laid, answered, answerOf, Prepared}
-use Rattle.region_table.specs.Entries.{StartsAt}
+use Rattle.region_table.specs.Entries.{LeadsTo}
 
 -- nothing is laid
 none-laid : (keys : List ℕ) (table : List Extent) → laid 0 keys table ≡ table
@@ -47,13 +47,13 @@ prepared-refused s keys places n r e i = rw i (untold s keys places n (λ table 
 
 -- the regions of entries, in order from place i of the keys on
 module _ (s keys : List ℕ) (places i : ℕ) (es : List Entry) (bounded : judgeBounds s ≡ accepted es) (inside : i ≤ length keys) (held : HasRegions es (drop i keys)) where
-  laid-extents : map keyExtent (drop i keys) ≡ inOrder (extentsOf es)
+  laid-extents : map keyExtent (drop i keys) ≡ inOrder (regionsOf es)
   laid-extents = keys-in-order es (drop i keys) (held .small) (held .same) (held .ascends)
 
-  how-many : length (inOrder (extentsOf es)) ≡ length keys - i
+  how-many : length (inOrder (regionsOf es)) ≡ length keys - i
   how-many = ap length (sym laid-extents) ∙ length-map (drop i keys) keyExtent ∙ length-drop i keys
 
-  last-laid : (table : List Extent) → laid (length keys - i) keys table ≡ inOrder (extentsOf es) ++ drop (length (inOrder (extentsOf es))) table
+  last-laid : (table : List Extent) → laid (length keys - i) keys table ≡ inOrder (regionsOf es) ++ drop (length (inOrder (regionsOf es))) table
   unfolding laid
   last-laid table =
       let e : length keys - (length keys - i) ≡ i = omega arith in
@@ -80,7 +80,7 @@ module _ (s keys : List ℕ) (places i : ℕ) (es : List Entry) (bounded : judge
       by false f = rw (e ∙ pick-false _ _ f) (roomy-prepared (ltb-false places (length keys - i) f))
 
 -- ---- of entries that a cursor walks through
-module _ (s : List ℕ) (g : Geometry) (keys : List ℕ) (places : ℕ) (super : SuperGood s g) (c : Cursor) (sums : List ℕ) (a : StartsAt s g sums c) where
+module _ (s : List ℕ) (g : Geometry) (keys : List ℕ) (places : ℕ) (super : SuperGood s g) (c : Cursor) (sums : List ℕ) (a : LeadsTo s g sums c) where
   pub entries-bad : all (regionGood (geometryView g)) (entriesFrom s c) ≡ false → (r : TableAnswer) → r ≡ answered 7 0 → Prepared s keys places r
   entries-bad e r i = prepared-refused s keys places 7 r (bounds-bad-regions s (geometryView g) super (a .sound) (ap (all (regionGood (geometryView g))) (sym (a .entries)) ∙ e)) i
 
@@ -93,7 +93,7 @@ module _ (s : List ℕ) (g : Geometry) (keys : List ℕ) (places : ℕ) (super :
       inside held r (e ∙ ap (λ (u : Bool). answerOf (length keys - i) u places) is)
 
 -- the plain engine's answer
-pub sound-number : (s : List ℕ) (g : Geometry) (sums : List ℕ) → SuperGood s g → (c : Cursor) → StartsAt s g sums c
+pub sound-number : (s : List ℕ) (g : Geometry) (sums : List ℕ) → SuperGood s g → (c : Cursor) → LeadsTo s g sums c
     → apartNumber (regionsSound (geometryView g) (entriesFrom s c)) ≡ sharingOf s
 unfolding apartNumber
 sound-number s g sums super c a = by (regionsSound (geometryView g) (entriesOf (itemsOf s (geometryView g)))) refl

@@ -16,7 +16,7 @@ use Rattle.region_table.specs.declared.First.{First}
 use Rattle.region_table.specs.declared.First.the-variants.{Unsound, At}
 
 -- of a sound index: the cursor walks through all its entries
-pub record StartsAt (s : List ℕ) (g : Geometry) (sums : List ℕ) (c : Cursor) : Type 0 where
+pub record LeadsTo (s : List ℕ) (g : Geometry) (sums : List ℕ) (c : Cursor) : Type 0 where
   pub sound : indexSound s (geometryView g) (itemsOf s (geometryView g)) ≡ true
   pub entries : entriesFrom s c ≡ entriesOf (itemsOf s (geometryView g))
   pub bounded : Bounded g
@@ -24,15 +24,15 @@ pub record StartsAt (s : List ℕ) (g : Geometry) (sums : List ℕ) (c : Cursor)
   pub few : c .left ≤ 4_094
   pub summed : SumsFrom s sums c
 
-unfoldable pub Starts : List ℕ → Geometry → List ℕ → First → Type 0
-Starts s g sums Unsound = indexSound s (geometryView g) (itemsOf s (geometryView g)) ≡ false
-Starts s g sums (At c) = StartsAt s g sums c
+unfoldable pub Leads : List ℕ → Geometry → List ℕ → First → Type 0
+Leads s g sums Unsound = indexSound s (geometryView g) (itemsOf s (geometryView g)) ≡ false
+Leads s g sums (At c) = LeadsTo s g sums c
 
 module _ (s : List ℕ) (g : Geometry) (sums : List ℕ) where
-  pub starts-at : SuperGood s g → (c : Cursor) → itemsFrom s c ≡ itemsOf s (geometryView g) → Inside s c → c .left ≤ 4_094 → SumsFrom s sums c
-      → indexSound s (geometryView g) (itemsOf s (geometryView g)) ≡ true → Starts s g sums (At c)
-  unfolding Starts
-  starts-at super c items inside few summed sound =
+  pub leads-to : SuperGood s g → (c : Cursor) → itemsFrom s c ≡ itemsOf s (geometryView g) → Inside s c → c .left ≤ 4_094 → SumsFrom s sums c
+      → indexSound s (geometryView g) (itemsOf s (geometryView g)) ≡ true → Leads s g sums (At c)
+  unfolding Leads
+  leads-to super c items inside few summed sound =
       let j = good-judged s g super in
       record {
         sound = sound;
@@ -43,11 +43,11 @@ module _ (s : List ℕ) (g : Geometry) (sums : List ℕ) where
         summed = summed;
       }
 
-  module _ (r : First) (h : Starts s g sums r) where
+  module _ (r : First) (h : Leads s g sums r) where
     pub first-unsound : r ≡ Unsound → indexSound s (geometryView g) (itemsOf s (geometryView g)) ≡ false
-    unfolding Starts
+    unfolding Leads
     first-unsound e = rw e at h
 
-    pub first-at : (c : Cursor) → r ≡ At c → StartsAt s g sums c
-    unfolding Starts
+    pub first-at : (c : Cursor) → r ≡ At c → LeadsTo s g sums c
+    unfolding Leads
     first-at c e = rw e at h

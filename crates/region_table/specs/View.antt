@@ -6,7 +6,8 @@ use mathlib.Core.List.{List, _++_, map}
 use lib.ListN.{length, drop}
 use lib.Dec.{ltb}
 use Rattle.rules.specs.Lists.{pick}
-use Rattle.rules.specs.RegionTable.{Extent, Tabled, apartNumber, tableOf}
+use Rattle.rules.specs.Regions.{Extent}
+use Rattle.rules.specs.RegionTable.{Tabled, apartNumber, tableOf}
 use Rattle.ordering.specs.Tables.{keyExtent}
 use Rattle.region_table.specs.declared.Region.{Region}
 use Rattle.region_table.specs.declared.TableAnswer.{TableAnswer}

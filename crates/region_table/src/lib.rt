@@ -15,7 +15,7 @@ ghost use Rattle.rules.specs.RegionTable.{apartNumber, tableOf, sharingOf};
 ghost use Rattle.ordering.specs.Tables.{keyExtent};
 ghost use Rattle.super_block.specs.View.{SuperGood};
 ghost use Rattle.region_table.specs.View.{extentView, laid, tabledView, answered, answerOf, Prepared};
-ghost use Rattle.region_table.specs.Entries.{Starts, StartsAt};
+ghost use Rattle.region_table.specs.Entries.{Leads, LeadsTo};
 
 // The places of a table of this crate's own.
 const PLACES: usize = 4_096;
@@ -73,7 +73,7 @@ enum First {
 
 fn first_entry(img: &[u8], g: Geometry, sums: &mut [u8]) -> First
     requires { ⌜ SuperGood (now img) g × (4_096 ≤ length (now sums)) ⌝ }
-    ensures { λ r. ⌜ Starts (now (img .entry)) g (now (sums .exit)) r ⌝ }
+    ensures { λ r. ⌜ Leads (now (img .entry)) g (now (sums .exit)) r ⌝ }
 {
     let from = super_block::first_slot(img, g, sums);
     if !super_block::index_sound(img, sums, g, from) {
@@ -91,7 +91,7 @@ fn prepare_entries(
     keys: &mut [u64],
     places: usize,
 ) -> TableAnswer
-    requires { ⌜ SuperGood (now img) g × StartsAt (now img) g (now sums) from × (length (now keys) ≡ 4_094) ⌝ }
+    requires { ⌜ SuperGood (now img) g × LeadsTo (now img) g (now sums) from × (length (now keys) ≡ 4_094) ⌝ }
     ensures { λ r. ⌜ Prepared (now (img .entry)) (now (keys .exit)) places r ⌝ }
 {
     let mut tmp = [0u64; MOST];

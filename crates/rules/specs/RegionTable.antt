@@ -6,21 +6,13 @@ use lib.ListN.{length, drop}
 use lib.Dec.{eqb, ltb, leb}
 use Rattle.rules.specs.Lists.{pick, all, only, everyTwo}
 use Rattle.rules.specs.Index.{Entry, itemsOf, entriesOf, indexSound}
-use Rattle.rules.specs.Regions.{regionGood, apart}
+use Rattle.rules.specs.Regions.{Extent, extentOf, regionGood, apart}
 use Rattle.rules.specs.Refusals.{Verdict, refused, accepted, need, andThen, judgeGeometry}
 pub mod Laws
 
--- a place of the table: the blocks from start up to, not including, end, in either edition
-pub record Extent : Type 0 where
-  pub start : ℕ
-  pub end : ℕ
-
-unfoldable pub extentOf : Entry → Extent
-extentOf e = record { start = e .start; end = e .end }
-
--- the regions of one block or more, of live files, deleted files and unusable entries; an empty file and a directory have none
-unfoldable pub extentsOf : List Entry → List Extent
-extentsOf es = map extentOf (only (λ e. ltb (e .start) (e .end)) es)
+-- the regions of one block or more, of live files, deleted files and unusable entries, their ends exclusive in either edition; an empty file and a directory have none
+unfoldable pub regionsOf : List Entry → List Extent
+regionsOf es = map extentOf (only (λ e. ltb (e .start) (e .end)) es)
 
 -- ---- in order
 -- by start, then end
@@ -55,7 +47,7 @@ untabled n table = record { answer = n; regions = 0; table = table }
 -- with too few places 18; else yes or no, the regions in order at the first places, and the others as they were
 unfoldable pub tabled : List Entry → List Extent → Tabled
 tabled es table =
-    let xs = inOrder (extentsOf es) in
+    let xs = inOrder (regionsOf es) in
     pick (ltb (length table) (length xs)) (untabled 18 table)
     (record { answer = apartNumber (everyTwo apart es); regions = length xs; table = xs ++ drop (length xs) table })
 

@@ -11,6 +11,13 @@ use Rattle.rules.specs.Index.{Entry, fileType, typeUnusable}
 pub mod Laws
 
 -- a region is the blocks from start up to, not including, end; a directory has none
+pub record Extent : Type 0 where
+  pub start : ℕ
+  pub end : ℕ
+
+unfoldable pub extentOf : Entry → Extent
+extentOf e = record { start = e .start; end = e .end }
+
 unfoldable pub holds : ℕ → Entry → Bool
 holds b e = leb (e .start) b && ltb b (e .end)
 

@@ -9,12 +9,12 @@ use Rattle.rules.specs.Lists.{pick, only, Perm}
 use Rattle.rules.specs.Editions.{Edition}
 use Rattle.rules.specs.SuperBlock.{Geometry}
 use Rattle.rules.specs.Index.{Entry, fileType, liveType}
-use Rattle.rules.specs.Regions.{blocksOf, blocksNeeded, regionsSound}
+use Rattle.rules.specs.Regions.{extentOf, blocksOf, blocksNeeded, regionsSound}
 use Rattle.rules.specs.Paths.{isLive, pathsSound}
 use Rattle.rules.specs.Reading.{fileBytes}
 use Rattle.rules.specs.Writing.{New, newFile, newDirectory, kindOf, bytesOf, liveKind}
 use Rattle.rules.specs.History.{keptOf}
-use Rattle.after.specs.After.{isNamed, seen, extentOf, isUnusable}
+use Rattle.after.specs.After.{isNamed, seen, isUnusable}
 use Rattle.laws.proofs.Lists.Parts.{only-map, map-map}
 use Rattle.laws.proofs.Lists.Perms.{perm-map, perm-only}
 use Rattle.laws.proofs.Entries.Regions.{SameRegion, same-region, sound-map, sound-perm}

@@ -52,7 +52,7 @@ use denote.Triple.Call.{calls-at}
 use denote.Triple.Clauses.{ensured, lasts}
 use denote.Triple.Walked.{says, needs, Stays, stay-none, stay-none-slice, stay-slice, walkOf, goes-none, goes-none-slice, goes-slice, Walks, ends-at, walked, walk-meets}
 use denote.Exit.{yes}
-use Rattle.rules.specs.RegionTable.{Extent}
+use Rattle.rules.specs.Regions.{Extent}
 use Rattle.region_table.specs.declared.Region.{Region}
 use Rattle.ordering.specs.Tables.{keyExtent}
 use Rattle.region_table.specs.View.{extentView, laid}

@@ -40,7 +40,7 @@ use denote.Triple.Clauses.{ensured, lasts}
 use denote.Triple.Walked.{says, Stays, stay-dropped, walkOf, goes-dropped, Walks, ends-at, walked, walk-meets}
 use denote.Exit.{yes}
 use Rattle.rules.specs.RegionTable.{Tabled, tableOf, sharingOf}
-use Rattle.rules.specs.RegionTable.Laws.{roomy-answer}
+use Rattle.laws.proofs.RegionTable.Room.{roomy-answer}
 use Rattle.units.specs.declared.Block.{Block}
 use Rattle.units.proofs.Block as B
 use Rattle.units.proofs.Block.Laws as B′

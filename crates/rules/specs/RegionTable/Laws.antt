@@ -1,21 +1,20 @@
--- Laws of the test over a table: regions in order are one list, what the test comes to by cases, and that 4,094 places are enough.
-use Prim.Native.Nat.{ℕ, zero, suc, _+_, _-_, _*_, _≤_, _<_}
+-- Laws of the test over a table: regions in order are one list, and what the test comes to by cases.
+use Prim.Native.Nat.{ℕ, _≤_, _<_}
 use mathlib.Core.Path.{_≡_, refl, sym, ap, ap₂, _∙_}
 use mathlib.Core.Bool.{Bool, true, false}
 use mathlib.Core.List.{List, [], _∷_, _++_}
 use native.Mathlib.Omega.{arith}
-use lib.ListN.{length, drop, length-map}
+use lib.ListN.{length, drop}
 use lib.Dec.{eqb, ltb, leb}
 use borrow.Author.Tests.{lt-ltb, le-ltb, ltb-true, ltb-false, leb-true, leb-false, le-leb, eq-eqb, eqb-true, eqb-false}
-use Rattle.rules.specs.Lists.{pick, all, only, keepIf, everyTwo, All, Pairs, Perm, same, keep, swap, thus}
+use Rattle.rules.specs.Lists.{pick, all, everyTwo, All, Pairs, Perm, same, keep, swap, thus}
 use Rattle.rules.specs.Lists.Laws.{clash, pick-true, pick-false, and-true}
-use Rattle.rules.specs.Editions.{Edition}
 use Rattle.rules.specs.SuperBlock.{Geometry}
-use Rattle.rules.specs.Index.{Entry, Item, unused, stale, entry, fault, itemAt, followed, walk, walkAll, itemsOf, innerSlots, slotAt, slotBytes, entriesOf, indexSound}
-use Rattle.rules.specs.Regions.{regionGood, regionsSound, apart}
-use Rattle.rules.specs.Refusals.{Verdict, refused, accepted, judgeGeometry}
-use Rattle.rules.specs.Refusals.Laws.{accepted-is, need-true, need-false, need-accepted, then-refused, then-next, then-accepted, judge-super}
-use Rattle.rules.specs.RegionTable.{Extent, extentOf, extentsOf, extentLe, inserted, inOrder, apartNumber, Tabled, untabled, tabled, judgeBounds, tableBy, tableOf, sharingBy, sharingOf}
+use Rattle.rules.specs.Index.{Entry, itemsOf, entriesOf, indexSound}
+use Rattle.rules.specs.Regions.{Extent, regionGood, regionsSound, apart}
+use Rattle.rules.specs.Refusals.{refused, accepted, judgeGeometry}
+use Rattle.rules.specs.Refusals.Laws.{need-true, need-false, then-refused, then-next}
+use Rattle.rules.specs.RegionTable.{regionsOf, extentLe, inserted, inOrder, apartNumber, untabled, tabled, judgeBounds, tableBy, tableOf, sharingBy, sharingOf}
 
 -- ---- the order of regions is one
 extent-is : (x y : Extent) → x .start ≡ y .start → x .end ≡ y .end → x ≡ y
@@ -225,79 +224,14 @@ module _ (s : List ℕ) where
     table-refused n e = rw e
 
     module _ (es : List Entry) (bounded : judgeBounds s ≡ accepted es) where
-      pub table-short : length table < length (inOrder (extentsOf es)) → tableOf s table ≡ untabled 18 table
+      pub table-short : length table < length (inOrder (regionsOf es)) → tableOf s table ≡ untabled 18 table
       unfolding tableOf tableBy tabled
       table-short h = rw (bounded) (pick-true _ _ (lt-ltb _ _ h))
 
-      pub table-told : length (inOrder (extentsOf es)) ≤ length table
-          → tableOf s table ≡ record { answer = apartNumber (everyTwo apart es); regions = length (inOrder (extentsOf es)); table = inOrder (extentsOf es) ++ drop (length (inOrder (extentsOf es))) table }
+      pub table-told : length (inOrder (regionsOf es)) ≤ length table
+          → tableOf s table ≡ record { answer = apartNumber (everyTwo apart es); regions = length (inOrder (regionsOf es)); table = inOrder (regionsOf es) ++ drop (length (inOrder (regionsOf es))) table }
       unfolding tableOf tableBy tabled
       table-told h = rw (bounded) (pick-false _ _ (le-ltb _ _ h))
-
--- ---- 4,094 PLACES ARE ENOUGH: an index has no more entries
-few-followed : (i : Item) (rest : ℕ → List Item) (n : ℕ) → ((m : ℕ) → length (entriesOf (rest m)) ≤ n) → length (entriesOf (followed i rest)) ≤ suc n
-unfolding followed entriesOf
-few-followed (unused k) rest n h = omega (arith, h 1)
-few-followed (stale k m) rest n h = omega (arith, h m)
-few-followed (entry e) rest n h = omega (arith, h (e .slots))
-few-followed (fault k) rest n h = omega arith
-
-few-walked : (ed : Edition) (steps left k : ℕ) (a : List ℕ) → length (entriesOf (walk ed steps left k a)) ≤ steps
-unfolding walk entriesOf
-few-walked ed zero left k a = omega arith
-few-walked ed (suc steps) zero k a = omega arith
-few-walked ed (suc steps) (suc left) k a =
-    few-followed (itemAt ed (suc left) k a) _ steps (λ n. few-walked ed steps (suc left - n) (k + n) (drop (slotBytes * n) a))
-
-few-entries : (s : List ℕ) (g : Geometry) → judgeGeometry s ≡ accepted g → length (entriesOf (itemsOf s g)) ≤ 4_094
-unfolding itemsOf walkAll innerSlots
-few-entries s g e =
-    omega (arith, few-walked (g .edition) (innerSlots g) (innerSlots g) 1 (drop (slotAt s g 1) s), judge-super s g e .geometry-good .index-high)
-
-bounded-few : (s : List ℕ) (es : List Entry) → judgeBounds s ≡ accepted es → length es ≤ 4_094
-unfolding judgeBounds
-bounded-few s es e =
-    let (g, super, rest) = then-accepted (judgeGeometry s) _ e in
-    let p = need-accepted _ _ _ rest in
-    let q = need-accepted _ _ _ (p .1) in
-    rw (← accepted-is (q .1)) (few-entries s g super)
-
-fewer-kept : (p : Entry → Bool) (es : List Entry) → length (only p es) ≤ length es
-unfolding only keepIf
-fewer-kept p [] = omega arith
-fewer-kept p (e ∷ es) = by (p e) (fewer-kept p es)
-  where
-    by : (t : Bool) → length (only p es) ≤ length es → length (keepIf t e (only p es)) ≤ suc (length es)
-    by true h = omega arith
-    by false h = omega arith
-
-put-length : (x : Extent) (ys : List Extent) → length (inserted x ys) ≡ suc (length ys)
-unfolding inserted pick
-put-length x [] = refl
-put-length x (y ∷ ys) = by (extentLe x y) (put-length x ys)
-  where
-    by : (t : Bool) → length (inserted x ys) ≡ suc (length ys) → length (pick t (x ∷ y ∷ ys) (y ∷ inserted x ys)) ≡ suc (suc (length ys))
-    by true h = refl
-    by false h = ap suc h
-
-in-order-length : (xs : List Extent) → length (inOrder xs) ≡ length xs
-unfolding inOrder
-in-order-length [] = refl
-in-order-length (x ∷ xs) = put-length x (inOrder xs) ∙ ap suc (in-order-length xs)
-
-few-extents : (s : List ℕ) (es : List Entry) → judgeBounds s ≡ accepted es → length (inOrder (extentsOf es)) ≤ 4_094
-unfolding extentsOf
-few-extents s es e =
-    omega (arith, in-order-length (extentsOf es), length-map (only (λ x. ltb (x .start) (x .end)) es) extentOf, fewer-kept (λ x. ltb (x .start) (x .end)) es, bounded-few s es e)
-
--- so with that many the answer is the one without a table
-pub roomy-answer : (s : List ℕ) (table : List Extent) → 4_094 ≤ length table → tableOf s table .answer ≡ sharingOf s
-unfolding untabled
-roomy-answer s table h = by (judgeBounds s) refl
-  where
-    by : (v : Verdict (List Entry)) → judgeBounds s ≡ v → tableOf s table .answer ≡ sharingOf s
-    by (refused n) e = ap (λ (x : Tabled). x .answer) (table-refused s table n e) ∙ sym (sharing-refused s n e)
-    by (accepted es) e = ap (λ (x : Tabled). x .answer) (table-told s table es e (omega (arith, few-extents s es e))) ∙ sym (sharing-told s es e)
 
 -- ---- AS 01 JUDGES: an image that opens, or that is refused for its paths alone, has regions that share no block, and the test says no of one that is refused for its regions
 module _ (s : List ℕ) (g : Geometry) (super : judgeGeometry s ≡ accepted g) (sound : indexSound s g (itemsOf s g) ≡ true) where

@@ -1,0 +1,2 @@
+-- The test for shared blocks over a table: how many places are enough.
+pub mod Room
