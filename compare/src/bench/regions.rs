@@ -1,6 +1,6 @@
 //! The engines for shared blocks on volumes of one region for each entry, in several orders of the index: over a lent table, over a table of
-//! its own, and by comparing each with every other; and the second program both ways. All in one run; the times hold the judging of the
-//! index up to 6, which all have to do.
+//! its own, and by comparing each with every other; the second program both ways; and an open. All in one run; the engines' times hold the
+//! judging of the index up to 6, which all have to do.
 
 use super::volumes::{of_regions, Extent};
 use super::{best, millis, SWEEPS};
@@ -44,12 +44,17 @@ fn shuffled(mut extents: Vec<Extent>) -> Vec<Extent> {
 /// An engine on an image and a table with room for all its regions.
 type Engine = fn(&[u8], &mut [TableRegion]) -> Refusal;
 
-const ENGINES: [(&str, Engine, u32); 5] = [
+const ENGINES: &[(&str, Engine, u32)] = &[
     ("lent table", |image, table| engines::in_table(image, table).answer, ROUNDS),
     ("own table", |image, _| Library.sharing(image).refusal, ROUNDS),
     ("plain", |image, _| Library.sharing_plain(image).refusal, PLAIN_ROUNDS),
     ("second, in order", |image, _| Own.sharing(image).refusal, ROUNDS),
     ("second, plain", |image, _| Own.sharing_plain(image).refusal, PLAIN_ROUNDS),
+    // All of 1 to 8, which judges the same regions.
+    #[cfg(before)]
+    ("open: before", |image, _| crate::before::Library.open(image, &mut [0; 64]).refusal, PLAIN_ROUNDS),
+    ("open: library", |image, _| Library.open(image, &mut [0; 64]).refusal, ROUNDS),
+    ("open: second", |image, _| Own.open(image, &mut [0; 64]).refusal, ROUNDS),
 ];
 
 /// A line for each order and engine: the best times for both sizes, and how many times the first the second is.
@@ -61,7 +66,7 @@ pub fn run() -> Result<String, String> {
             images.push(of_regions(&extents(size), behind)?);
         }
         for (name, engine, rounds) in ENGINES {
-            let times = [least(&images[0], engine, rounds, wanted)?, least(&images[1], engine, rounds, wanted)?];
+            let times = [least(&images[0], *engine, *rounds, wanted)?, least(&images[1], *engine, *rounds, wanted)?];
             let ratio = times[1].as_secs_f64() / times[0].as_secs_f64();
             text += &format!("\n{order}\t{name}\t{:.4}\t{:.4}\t{ratio:.2}", millis(times[0]), millis(times[1]));
         }
