@@ -10,14 +10,17 @@ use borrow.Author.Tests.{leb-true, le-leb, ltb-true}
 use Rattle.rules.specs.Lists.{pick, all, everyTwo, keepIf, only, All, Pairs, Perm}
 use Rattle.rules.specs.Lists.Laws.{and-true, and-both, or-right, or-other}
 use Rattle.rules.specs.Index.{Entry}
-use Rattle.rules.specs.Regions.{apart}
+use Rattle.rules.specs.Regions.{Extent, extentOf, apart}
 use Rattle.rules.specs.Regions.Laws.{apart-before, apart-behind}
 use Rattle.laws.proofs.Lists.Every.{or-left, same-test, all-weaken, all-of, all-and, all-only, all-chosen, all-map, all-holds, two-map, two-says, two-holds, pairs-weaken}
 use Rattle.laws.proofs.Lists.Perms.{perm-all, perm-two}
 
 -- a region's key: its start and its end in one number, above a place that is not used
+unfoldable pub extentKey : Extent → ℕ
+extentKey x = (x .start * 131_072 + x .end) * 65_536
+
 unfoldable pub regionKey : Entry → ℕ
-regionKey e = (e .start * 131_072 + e .end) * 65_536
+regionKey e = extentKey (extentOf e)
 
 unfoldable pub hasRegion : Entry → Bool
 hasRegion e = ltb (e .start) (e .end)
@@ -28,7 +31,11 @@ keyStart k = k / 65_536 / 131_072
 unfoldable pub keyEnd : ℕ → ℕ
 keyEnd k = k / 65_536 % 131_072
 
--- each region starts at or past the end of the one before it, the first at or past b
+-- each region starts at or past the end of the one before it, the first at or past b: of regions, and of keys
+unfoldable pub extentsInTurn : ℕ → List Extent → Bool
+extentsInTurn b [] = true
+extentsInTurn b (x ∷ xs) = leb b (x .start) && extentsInTurn (x .end) xs
+
 unfoldable pub inTurn : ℕ → List ℕ → Bool
 inTurn b [] = true
 inTurn b (k ∷ ks) = leb b (keyStart k) && inTurn (keyEnd k) ks
@@ -50,14 +57,14 @@ pub record Keyed (e : Entry) : Type 0 where
   pub end : keyEnd (regionKey e) ≡ e .end
   pub some : e .start < e .end
 
-start-of : (s e : ℕ) → e ≤ 65_536 → (s * 131_072 + e) * 65_536 / 65_536 / 131_072 ≡ s
+pub start-of : (s e : ℕ) → e ≤ 65_536 → (s * 131_072 + e) * 65_536 / 65_536 / 131_072 ≡ s
 start-of s e h = omega arith
 
-end-of : (s e : ℕ) → e ≤ 65_536 → (s * 131_072 + e) * 65_536 / 65_536 % 131_072 ≡ e
+pub end-of : (s e : ℕ) → e ≤ 65_536 → (s * 131_072 + e) * 65_536 / 65_536 % 131_072 ≡ e
 end-of s e h = omega arith
 
 small-keyed : (e : Entry) → Small e → hasRegion e ≡ true → Keyed e
-unfolding keyStart keyEnd regionKey hasRegion
+unfolding keyStart keyEnd extentKey regionKey extentOf hasRegion
 small-keyed e s h =
     let l = ltb-true (e .start) (e .end) h in
     record { start = start-of (e .start) (e .end) (s .below l); end = end-of (e .start) (e .end) (s .below l); some = l }

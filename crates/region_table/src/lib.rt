@@ -1,20 +1,24 @@
-// The test for shared blocks over a lent table of regions: they are gathered and put in order as in judging, neighbours are compared, and the table is filled with
-// them. The plain engine stands beside it. Both are for whoever judges regions alone; no call of the library goes through them.
+// The test for shared blocks over a lent table of regions: they are gathered into it, put in order there, and neighbours are compared. The plain engine stands beside it. Both
+// are for whoever judges regions alone; no call of the library goes through them.
 
 use geometry::Geometry;
 use index::Cursor;
 use judging::MOST;
-use regions::Arranged;
+use regions::Gathered;
 use super_block::SuperBlock;
 use units::Block;
 ghost use mathlib.Core.Path.{_≡_};
-ghost use mathlib.Core.List.{map};
-ghost use Prim.Native.Nat.{_≤_};
-ghost use lib.ListN.{length};
+ghost use mathlib.Core.List.{List, _∷_, map};
+ghost use Prim.Native.Nat.{_-_, _≤_};
+ghost use lib.ListN.{length, take, drop};
 ghost use Rattle.rules.specs.RegionTable.{apartNumber, tableOf, sharingOf};
-ghost use Rattle.ordering.specs.Tables.{keyExtent};
+ghost use Rattle.rules.specs.Lists.{All};
+ghost use Rattle.rules.specs.Regions.{Extent};
+ghost use Rattle.ordering.specs.Regions.{extentKey, extentsInTurn};
+ghost use Rattle.ordering.specs.Tables.{keyExtent, SmallExtent};
+ghost use Rattle.regions.specs.Gathering.{InTheirOrder};
 ghost use Rattle.super_block.specs.View.{SuperGood};
-ghost use Rattle.region_table.specs.View.{extentView, laid, tabledView, answered, answerOf, Prepared};
+ghost use Rattle.region_table.specs.View.{extentView, laid, ordered, tabledView, answered, answerOf, concluded, onward, Prepared, Orderable, Filled};
 ghost use Rattle.region_table.specs.Entries.{Leads, LeadsTo};
 
 // The places of a table of this crate's own.
@@ -52,16 +56,29 @@ fn apart_number(apart: bool) -> u32
     if apart { 0 } else { 7 }
 }
 
-// For n regions and a table of so many places.
-fn answer_of(n: usize, apart: bool, places: usize) -> TableAnswer
-    ensures { λ r. ⌜ r ≡ answerOf n apart places ⌝ }
+// Before the regions are compared: for n of them and a table of so many places.
+fn answer_of(n: usize, places: usize) -> TableAnswer
+    ensures { λ r. ⌜ r ≡ answerOf n places ⌝ }
 {
     if places < n {
         return refusal(18);
     }
     TableAnswer {
-        answer: apart_number(apart),
+        answer: 0,
         regions: n,
+    }
+}
+
+// What was found, once the regions are compared: a refusal stands.
+fn conclude(found: TableAnswer, apart: bool) -> TableAnswer
+    ensures { λ r. ⌜ r ≡ concluded found apart ⌝ }
+{
+    if found.answer != 0 {
+        return found;
+    }
+    TableAnswer {
+        answer: apart_number(apart),
+        regions: found.regions,
     }
 }
 
@@ -82,7 +99,8 @@ fn first_entry(img: &[u8], g: Geometry, sums: &mut [u8]) -> First
     First::At(from)
 }
 
-// What the test comes to for entries from a cursor on, and a table of so many places: the keys of the regions that are to stand in it are the last ones.
+// ---- gathered, as keys: the regions that are to stand in a table of so many places are those of the last keys
+
 fn prepare_entries(
     img: &[u8],
     sums: &[u8],
@@ -94,10 +112,9 @@ fn prepare_entries(
     requires { ⌜ SuperGood (now img) g × LeadsTo (now img) g (now sums) from × (length (now keys) ≡ 4_094) ⌝ }
     ensures { λ r. ⌜ Prepared (now (img .entry)) (now (keys .exit)) places r ⌝ }
 {
-    let mut tmp = [0u64; MOST];
-    match regions::arrange(img, sums, g, from, keys, &mut tmp) {
-        Arranged::Bad => refusal(7),
-        Arranged::From(i, apart) => answer_of(keys.len() - i, apart, places),
+    match regions::gather(img, sums, g, from, keys) {
+        Gathered::Bad => refusal(7),
+        Gathered::From(i) => answer_of(keys.len() - i, places),
     }
 }
 
@@ -124,7 +141,7 @@ fn prepare(image: &[u8], keys: &mut [u64], places: usize) -> TableAnswer
     }
 }
 
-// ---- the table: a slice of structs, in two functions, and one above them that lends a table of its own
+// ---- one region, and numbers: what the functions over the table call
 
 // The region of a key.
 fn region_of(key: u64) -> Region
@@ -135,6 +152,58 @@ fn region_of(key: u64) -> Region
         end: regions::key_end(key),
     }
 }
+
+// And the key of a region.
+fn key_of_region(r: Region) -> u64
+    requires { ⌜ SmallExtent (extentView r) ⌝ }
+    ensures { λ k. ⌜ k ≡ extentKey (extentView r) ⌝ }
+{
+    regions::key_at(r.start, r.end)
+}
+
+// The last n keys in order.
+fn sort_last(keys: &mut [u64], n: usize)
+    requires { ⌜ (length (now keys) ≡ 4_094) × (n ≤ 4_094) ⌝ }
+    ensures { λ _. ⌜ InTheirOrder (drop (length (now (keys .entry)) - n) (now (keys .entry))) (drop (length (now (keys .entry)) - n) (now (keys .exit))) ⌝ }
+{
+    let mut tmp = [0u64; MOST];
+    let first = keys.len() - n;
+    regions::sort_keys(keys, first, &mut tmp);
+}
+
+// How far regions were compared: where the last one ends, and whether each before it starts at or past the end of its neighbour.
+struct Passed {
+    end: Block,
+    apart: bool,
+}
+
+// Before the first.
+fn at_first() -> Passed
+    ensures { λ p. ⌜ ((xs : List Extent) → onward p xs ≡ extentsInTurn 0 xs) ⌝ }
+{
+    Passed {
+        end: Block::at(0),
+        apart: true,
+    }
+}
+
+// One region on.
+fn pass(p: Passed, r: Region) -> Passed
+    ensures { λ q. ⌜ ((xs : List Extent) → onward q xs ≡ onward p (extentView r ∷ xs)) ⌝ }
+{
+    let last = p.end;
+    let start = r.start;
+    let end = r.end;
+    if !last.is_at_or_before(start) {
+        return Passed { end, apart: false };
+    }
+    Passed {
+        end,
+        apart: p.apart,
+    }
+}
+
+// ---- the table: a slice of structs
 
 // The first n places of the table become the regions of the last n keys.
 fn lay(table: &mut [Region], keys: &[u64], n: usize)
@@ -151,16 +220,69 @@ fn lay(table: &mut [Region], keys: &[u64], n: usize)
     }
 }
 
+// The last n keys become those of the regions at the first n places.
+fn take_apart(table: &[Region], keys: &mut [u64], n: usize)
+    requires { ⌜ (n ≤ length (now table)) × (n ≤ length (now keys)) × All SmallExtent (take n (map extentView (now table))) ⌝ }
+    ensures { λ _. ⌜ drop (length (now (keys .entry)) - n) (now (keys .exit)) ≡ map extentKey (take n (map extentView (now (table .entry)))) ⌝ }
+{
+    let first = keys.len() - n;
+    let mut i: usize = 0;
+    while i < n {
+        let r = table[i];
+        let key = key_of_region(r);
+        keys[first + i] = key;
+        i += 1;
+    }
+}
+
+// Whether each region at the first n places starts at or past the end of the one before it.
+fn neighbours_apart(table: &[Region], n: usize) -> bool
+    requires { ⌜ n ≤ length (now table) ⌝ }
+    ensures { λ r. ⌜ r ≡ extentsInTurn 0 (take n (map extentView (now (table .entry)))) ⌝ }
+{
+    let mut p = at_first();
+    let mut i: usize = 0;
+    while i < n {
+        let r = table[i];
+        let q = pass(p, r);
+        p = q;
+        i += 1;
+    }
+    p.apart
+}
+
+// The regions of an image gathered into the table, if it has places enough.
+fn fill(image: &[u8], table: &mut [Region]) -> TableAnswer
+    ensures { λ r. ⌜ Filled (now (image .entry)) (map extentView (now (table .entry))) (map extentView (now (table .exit))) r ⌝ }
+{
+    let mut keys = [0u64; MOST];
+    let found = prepare(image, &mut keys, table.len());
+    let n = found.regions;
+    lay(table, &keys, n);
+    found
+}
+
+// The regions at the first n places put in order, by start, then end.
+fn put_in_order(table: &mut [Region], n: usize)
+    requires { ⌜ Orderable n (map extentView (now table)) ⌝ }
+    ensures { λ _. ⌜ map extentView (now (table .exit)) ≡ ordered n (map extentView (now (table .entry))) ⌝ }
+{
+    let mut keys = [0u64; MOST];
+    take_apart(table, &mut keys, n);
+    sort_last(&mut keys, n);
+    lay(table, &keys, n);
+}
+
 // Whether no two regions of an image share a block, over a lent table: it then holds the regions in order.
 #[no_mangle]
 pub extern "C" fn regions_in_table(image: &[u8], table: &mut [Region]) -> TableAnswer
     ensures { λ r. ⌜ tabledView r (map extentView (now (table .exit))) ≡ tableOf (now (image .entry)) (map extentView (now (table .entry))) ⌝ }
 {
-    let mut keys = [0u64; MOST];
-    let answer = prepare(image, &mut keys, table.len());
-    let n = answer.regions;
-    lay(table, &keys, n);
-    answer
+    let found = fill(image, table);
+    let n = found.regions;
+    put_in_order(table, n);
+    let apart = neighbours_apart(table, n);
+    conclude(found, apart)
 }
 
 // The same over a table of its own: whoever calls it needs to know of none.

@@ -33,8 +33,6 @@ use Rattle.index.specs.Steps.{Walks, Step, entriesFrom}
 use Rattle.index.specs.Turns.{all-next}
 use Rattle.regions.specs.declared.Gathered.{Gathered}
 use Rattle.regions.specs.declared.Gathered.the-variants.{Bad, From}
-use Rattle.regions.specs.declared.Arranged.{Arranged}
-use Rattle.regions.specs.declared.Arranged.the-variants.{Bad as NotGood, From as Lined}
 use Rattle.regions.specs.declared.Regions.{Regions}
 use Rattle.regions.specs.declared.Regions.the-variants.{Unsound, From as InOrder}
 use Rattle.regions.specs.Bounds.{Bounded, within-true}
@@ -176,7 +174,12 @@ module _ (ks : List ℕ) (b i : ℕ) where
     unfolding inTurn
     turn-next e = rw (here-and-behind ks i k h here, e)
 
--- ---- what putting them in order comes to: the same keys, which stand in turn or ascend, and whether they stand in turn
+-- ---- what putting keys in order comes to: the same keys, and they ascend
+pub record InTheirOrder (before after : List ℕ) : Type 0 where
+  pub same : Perm before after
+  pub ascends : Pairs (λ a b. a / 65_536 ≤ b / 65_536) after
+
+-- and where those that stand in turn already are let be: whether they stand in turn
 pub record Ordered (before after : List ℕ) (r : Bool) : Type 0 where
   pub same : Perm before after
   pub turns : r ≡ inTurn 0 after
@@ -191,15 +194,14 @@ number-le ed s at a b h = by (eqb (a / 65_536) (b / 65_536)) refl
     by false e = omega (arith, ltb-true (a / 65_536) (b / 65_536) (sym (pick-false (pathLe (keyRest ed s at a) (keyRest ed s at b)) _ e) ∙ h))
 
 module _ (keys : List ℕ) where
+  pub sorted-keys : (ed : Edition) (s : List ℕ) (at : ℕ) (after : List ℕ) → Sorted (keyLe ed s at) keys after → InTheirOrder keys after
+  sorted-keys ed s at after sorted = record { same = sorted .same; ascends = pairs-weaken _ _ (number-le ed s at) after (sorted .ascends) }
+
   pub in-turn : true ≡ inTurn 0 keys → Ordered keys keys true
   in-turn e = record { same = same; turns = e; ascends = λ f. clash f }
 
-  pub sorted-turns : (ed : Edition) (s : List ℕ) (at : ℕ) (after : List ℕ) (r : Bool) → Sorted (keyLe ed s at) keys after → r ≡ inTurn 0 after → Ordered keys after r
-  sorted-turns ed s at after r sorted e = record {
-    same = sorted .same;
-    turns = e;
-    ascends = λ f. pairs-weaken _ _ (number-le ed s at) after (sorted .ascends);
-  }
+  pub sorted-turns : (after : List ℕ) (r : Bool) → InTheirOrder keys after → r ≡ inTurn 0 after → Ordered keys after r
+  sorted-turns after r sorted e = record { same = sorted .same; turns = e; ascends = λ f. sorted .ascends }
 
 -- ---- THE REGIONS OF ENTRIES, by their keys in order
 -- the keys are those of the regions that entries have, and they ascend
@@ -208,30 +210,14 @@ pub record HasRegions (es : List Entry) (keys : List ℕ) : Type 0 where
   pub same : Perm (map regionKey (only hasRegion es)) keys
   pub ascends : Pairs (λ a b. a / 65_536 ≤ b / 65_536) keys
 
--- one is not good; or all are, their keys stand in order from place i on, and whether every two are apart
-unfoldable pub Arranges : List ℕ → Geometry → Cursor → List ℕ → Arranged → Type 0
-Arranges s g c keys NotGood = all (regionGood (geometryView g)) (entriesFrom s c) ≡ false
-Arranges s g c keys (Lined i apartAll) =
-    (all (regionGood (geometryView g)) (entriesFrom s c) ≡ true) × (i ≤ length keys) × HasRegions (entriesFrom s c) (drop i keys) × (apartAll ≡ everyTwo apart (entriesFrom s c))
-
-module _ (s : List ℕ) (g : Geometry) (c : Cursor) (keys : List ℕ) (r : Arranged) (h : Arranges s g c keys r) where
-  pub arranged-bad : r ≡ NotGood → all (regionGood (geometryView g)) (entriesFrom s c) ≡ false
-  unfolding Arranges
-  arranged-bad e = rw e at h
-
-  pub arranged-from : (i : ℕ) (t : Bool) → r ≡ Lined i t
-      → (all (regionGood (geometryView g)) (entriesFrom s c) ≡ true) × (i ≤ length keys) × HasRegions (entriesFrom s c) (drop i keys) × (t ≡ everyTwo apart (entriesFrom s c))
-  unfolding Arranges
-  arranged-from i t e = rw e at h
-
 module _ (s : List ℕ) (g : Geometry) (bounded : Bounded g) (c : Cursor) (good : all (regionGood (geometryView g)) (entriesFrom s c) ≡ true) where
-  all-small : All Small (entriesFrom s c)
+  pub all-small : All Small (entriesFrom s c)
   all-small =
       all-weaken _ _ (λ e h. h .1 (h .0)) (entriesFrom s c)
       (all-and _ _ (entriesFrom s c) (all-says (regionGood (geometryView g)) (entriesFrom s c) good) (good-small g bounded s c))
 
   module _ (keys after : List ℕ) (is : keys ≡ regionKeys (entriesFrom s c)) where
-    keys-same : Perm keys after → Perm (map regionKey (only hasRegion (entriesFrom s c))) after
+    pub keys-same : Perm keys after → Perm (map regionKey (only hasRegion (entriesFrom s c))) after
     unfolding regionKeys
     keys-same p = thus (turned-perm (map regionKey (only hasRegion (entriesFrom s c)))) (rw is at p)
 
@@ -249,11 +235,6 @@ module _ (s : List ℕ) (g : Geometry) (bounded : Bounded g) (c : Cursor) (good 
     keys-decide : (r : Bool) → Ordered keys after r → r ≡ everyTwo apart (entriesFrom s c)
     keys-decide r o = o .turns ∙ sym (in-turn-decides (entriesFrom s c) after all-small (keys-same (o .same)) (keys-ascend r o))
 
-  pub ordered-arranged : (keys kept : List ℕ) (i : ℕ) → keys ≡ regionKeys (entriesFrom s c) → i ≤ length kept
-      → (r : Bool) → Ordered keys (drop i kept) r → Arranges s g c kept (Lined i r)
-  unfolding Arranges
-  ordered-arranged keys kept i is fits r o = (good, fits, keys-held keys (drop i kept) is r o, keys-decide keys (drop i kept) is r o)
-
 -- ---- THE JUDGEMENT
 unfoldable pub JudgesRegions : List ℕ → Geometry → Cursor → List ℕ → Regions → Type 0
 JudgesRegions s g c keys Unsound = regionsSound (geometryView g) (entriesFrom s c) ≡ false
@@ -269,19 +250,15 @@ module _ (s : List ℕ) (g : Geometry) (c : Cursor) (keys : List ℕ) (r : Regio
   unfolding JudgesRegions
   regions-from i e = rw e at h
 
-module _ (s : List ℕ) (g : Geometry) (c : Cursor) (kept : List ℕ) (r : Arranged) (told : Arranges s g c kept r) where
-  pub bad-unsound : r ≡ NotGood → JudgesRegions s g c kept Unsound
+module _ (s : List ℕ) (g : Geometry) (bounded : Bounded g) (c : Cursor) (good : all (regionGood (geometryView g)) (entriesFrom s c) ≡ true) (keys kept : List ℕ) (i : ℕ)
+    (is : keys ≡ regionKeys (entriesFrom s c)) (r : Bool) (o : Ordered keys (drop i kept) r) where
+  pub ordered-unsound : r ≡ false → JudgesRegions s g c kept Unsound
   unfolding JudgesRegions regionsSound
-  bad-unsound e = rw (arranged-bad s g c kept r told e)
+  ordered-unsound f = rw good (sym (keys-decide s g bounded c good keys (drop i kept) is r o) ∙ f)
 
-  module _ (i : ℕ) (t : Bool) (e : r ≡ Lined i t) where
-    pub shared-unsound : t ≡ false → JudgesRegions s g c kept Unsound
-    unfolding JudgesRegions regionsSound
-    shared-unsound f = let h = arranged-from s g c kept r told i t e in rw (h .0) (sym (h .3) ∙ f)
-
-    pub apart-sound : t ≡ true → JudgesRegions s g c kept (InOrder i)
-    unfolding JudgesRegions regionsSound
-    apart-sound f = let h = arranged-from s g c kept r told i t e in (rw (h .0) (sym (h .3) ∙ f), h .2)
+  pub ordered-from : r ≡ true → JudgesRegions s g c kept (InOrder i)
+  unfolding JudgesRegions regionsSound
+  ordered-from f = (rw good (sym (keys-decide s g bounded c good keys (drop i kept) is r o) ∙ f), keys-held s g bounded c good keys (drop i kept) is r o)
 
 -- sound regions are small
 pub sound-small : (s : List ℕ) (g : Geometry) → Bounded g → (c : Cursor) → regionsSound (geometryView g) (entriesFrom s c) ≡ true → All Small (entriesFrom s c)

@@ -1,6 +1,5 @@
 // Regions: whether each is good, and whether no two share a block.
 
-use editions::Edition;
 use geometry::Geometry;
 use index::Cursor;
 use index::Next;
@@ -23,9 +22,10 @@ ghost use Rattle.geometry.specs.View.{geometryView};
 ghost use Rattle.slots.specs.View.{headView};
 ghost use Rattle.index.specs.View.{SumsFrom};
 ghost use Rattle.index.specs.Steps.{Walks, entriesFrom};
-ghost use Rattle.ordering.specs.Regions.{regionKey, hasRegion, keyStart, keyEnd, inTurn};
+ghost use Rattle.ordering.specs.Regions.{extentKey, regionKey, hasRegion, keyStart, keyEnd, inTurn};
+ghost use Rattle.ordering.specs.Tables.{SmallExtent};
 ghost use Rattle.regions.specs.Bounds.{Bounded};
-ghost use Rattle.regions.specs.Gathering.{Gathers, Ordered, Arranges, JudgesRegions};
+ghost use Rattle.regions.specs.Gathering.{Gathers, InTheirOrder, Ordered, JudgesRegions};
 
 // One block or more, in the data area.
 fn within_data(g: Geometry, h: Head) -> bool
@@ -99,17 +99,25 @@ fn regions_apart(a: Head, b: Head) -> bool
 const ENDS: u64 = 131_072;
 
 // The regions of entries, gathered from the end of a lent slice on: where they begin, unless one is not good.
-enum Gathered {
+pub enum Gathered {
     Bad,
     From(usize),
 }
 
 // The start and the end of a region as one number, with no place below it.
+pub fn key_at(start: Block, end: Block) -> u64
+    requires { ⌜ SmallExtent (record { start = start .0; end = end .0 }) ⌝ }
+    ensures { λ r. ⌜ r ≡ extentKey (record { start = start .0; end = end .0 }) ⌝ }
+{
+    (start.number() * ENDS + end.number()) * PLACES
+}
+
+// The key of an entry's region.
 fn key_of(h: Head) -> u64
     requires { ⌜ (pastEnd (editionView (h .edition)) (h .end .0) ≤ 65_536) × (h .start .0 < pastEnd (editionView (h .edition)) (h .end .0)) ⌝ }
     ensures { λ r. ⌜ ((s : List ℕ) → r ≡ regionKey (headView s h)) ⌝ }
 {
-    (h.start.number() * ENDS + slots::past_end(h).number()) * PLACES
+    key_at(h.start, slots::past_end(h))
 }
 
 // The region of an entry, if it has one, put before place i.
@@ -126,7 +134,7 @@ fn put_region(keys: &mut [u64], i: usize, h: Head) -> usize
 }
 
 // The regions of all entries from the cursor on, the last one first: those of an index that creates made are in order then.
-fn gather(img: &[u8], sums: &[u8], g: Geometry, from: Cursor, keys: &mut [u64]) -> Gathered
+pub fn gather(img: &[u8], sums: &[u8], g: Geometry, from: Cursor, keys: &mut [u64]) -> Gathered
     requires { ⌜ Bounded g × Walks (now img) from × (from .left ≤ length (now keys)) × SumsFrom (now img) (now sums) from ⌝ }
     ensures { λ r. ⌜ Gathers (now (img .entry)) g from (now (keys .exit)) r ⌝ }
 {
@@ -176,43 +184,25 @@ fn in_turn(keys: &[u64], from: usize) -> bool
     true
 }
 
+// The keys from place i on put in order; tmp is scratch. No key of a region names a path, so that the sort needs no image.
+pub fn sort_keys(keys: &mut [u64], i: usize, tmp: &mut [u64])
+    requires { ⌜ (i ≤ length (now keys)) × (length (now keys) ≤ length (now tmp)) ⌝ }
+    ensures { λ _. ⌜ InTheirOrder (drop i (now (keys .entry))) (drop i (now (keys .exit))) ⌝ }
+{
+    let none = [0u8; 1];
+    sorting::sort_from(&none, editions::FIRST, Offset::at(0), keys, i, tmp);
+}
+
 // The regions from place i on put in order by their starts, if they do not stand in turn already; tmp is scratch. Whether they share no block.
-fn order(img: &[u8], ed: Edition, at: Offset, keys: &mut [u64], i: usize, tmp: &mut [u64]) -> bool
-    requires { ⌜ (i ≤ length (now keys)) × (length (now keys) ≤ length (now tmp)) × (at .0 ≤ 16_777_216) ⌝ }
+fn order(keys: &mut [u64], i: usize, tmp: &mut [u64]) -> bool
+    requires { ⌜ (i ≤ length (now keys)) × (length (now keys) ≤ length (now tmp)) ⌝ }
     ensures { λ r. ⌜ Ordered (drop i (now (keys .entry))) (drop i (now (keys .exit))) r ⌝ }
 {
     if in_turn(keys, i) {
         return true;
     }
-    sorting::sort_from(img, ed, at, keys, i, tmp);
+    sort_keys(keys, i, tmp);
     in_turn(keys, i)
-}
-
-// The regions of entries in order, from a place of the lent slice on, and whether no two of them share a block; unless one is not good.
-pub enum Arranged {
-    Bad,
-    From(usize, bool),
-}
-
-// The regions of the entries from the cursor on gathered in `keys` and put in order; tmp is scratch.
-pub fn arrange(
-    img: &[u8],
-    sums: &[u8],
-    g: Geometry,
-    from: Cursor,
-    keys: &mut [u64],
-    tmp: &mut [u64],
-) -> Arranged
-    requires { ⌜ Bounded g × Walks (now img) from × (from .left ≤ length (now keys)) × (length (now keys) ≤ length (now tmp)) × SumsFrom (now img) (now sums) from ⌝ }
-    ensures { λ r. ⌜ Arranges (now (img .entry)) g from (now (keys .exit)) r ⌝ }
-{
-    match gather(img, sums, g, from, keys) {
-        Gathered::Bad => Arranged::Bad,
-        Gathered::From(i) => {
-            let apart = order(img, from.edition, from.at, keys, i, tmp);
-            Arranged::From(i, apart)
-        }
-    }
 }
 
 // Regions judged; if they are sound, their keys stand in order from a place of the lent slice on.
@@ -233,10 +223,10 @@ pub fn judge_regions(
     requires { ⌜ Bounded g × Walks (now img) from × (from .left ≤ length (now keys)) × (length (now keys) ≤ length (now tmp)) × SumsFrom (now img) (now sums) from ⌝ }
     ensures { λ r. ⌜ JudgesRegions (now (img .entry)) g from (now (keys .exit)) r ⌝ }
 {
-    match arrange(img, sums, g, from, keys, tmp) {
-        Arranged::Bad => Regions::Unsound,
-        Arranged::From(i, apart) => {
-            if !apart {
+    match gather(img, sums, g, from, keys) {
+        Gathered::Bad => Regions::Unsound,
+        Gathered::From(i) => {
+            if !order(keys, i, tmp) {
                 return Regions::Unsound;
             }
             Regions::From(i)

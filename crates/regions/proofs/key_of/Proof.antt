@@ -1,28 +1,26 @@
-use Prim.Native.Nat.{_≤_, _<_}
-use mathlib.Core.Path.{_∙_}
+use Prim.Native.Nat.{ℕ}
+use mathlib.Core.Path.{ap, _∙_}
 use mathlib.Core.List.{[]}
 use native.Mathlib.Omega.{arith}
-use borrow.Author.Needs.{needs}
-use Rattle.ordering.specs.Regions.{regionKey}
+use Rattle.rules.specs.Regions.{extentOf}
+use Rattle.ordering.specs.Regions.{extentKey, regionKey}
 use Rattle.slots.specs.View.{headView, end-near}
 use Rattle.regions.proofs.key_of.Statement.{statement}
 use Rattle.regions.proofs.key_of.Tie as tie
 
 past-end-requires : tie.Need-past-end-requires
 unfolding headView
-past-end-requires c κs = omega (arith, c .before .pre .0, end-near [] (c .before .args .h))
+past-end-requires c κs = omega (arith, c .pre .0, end-near [] (c .args .h))
 
--- the end of a region is less than 131,072
-below : (c : tie.After-number2) → (c .before .before .number .result < 65_536) × (c .number2 .result ≤ 65_536)
+key-at-requires : tie.Need-key-at-requires
 unfolding headView
-below c =
-    let n = c .before .before in
-    let e = c .number2 .ensures ∙ c .before .past-end .ensures [] in
-    (omega (arith, n .number .ensures, n .before .pre), omega (arith, e, n .before .pre .0))
+key-at-requires c κs =
+    let e = c .past-end .ensures [] in
+    record { some = omega (arith, e, c .before .pre .1); below = omega (arith, e, c .before .pre .0) }
 
 returns : tie.Need-returns
-unfolding regionKey headView
-returns c s = rw (c .before .before .number .ensures, c .number2 .ensures, c .before .past-end .ensures s)
+unfolding regionKey extentOf headView
+returns c s = c .key-at .ensures ∙ ap (λ (e : ℕ). extentKey (record { start = c .before .before .args .h .start .0; end = e })) (c .before .past-end .ensures s)
 
 pub key-of-spec : {M : Type 1} → statement M
-key-of-spec = tie.close (tie.spec (λ c κs. search needs) (λ c. search needs) past-end-requires (λ c κs. search needs) (λ c. record { fits = omega (arith, below c) }) (λ c. record { fits = omega (arith, below c) }) returns)
+key-of-spec = tie.close (tie.spec past-end-requires key-at-requires returns)
