@@ -1,17 +1,23 @@
--- What the walks over the table share: the local array of keys, and an answer's machine value.
+-- What the walks over the table share: an element's type, the local array of keys, and an answer's machine value.
 use mathlib.Core.Path.{_≡_, _∙_}
 use Prim.Native.Nat.{ℕ, _<_, _^_}
 use mathlib.Core.List.{List, [], _∷_}
 use lib.Dec.{lit<}
 use lib.ListN.{length, replicate, length-replicate}
 use mir.Val.{Val}
+use denote.RattleType.{RattleType}
 use denote.Laws.{Is}
 use denote.Builtin.{u64}
 use denote.Slice.{Room}
 use denote.Struct.Laws as LL
 use Rattle.region_table.specs.declared.TableAnswer.{TableAnswer}
+use Rattle.region_table.proofs.Region as T
 use Rattle.region_table.proofs.TableAnswer as O
 use Rattle.region_table.proofs.TableAnswer.Laws as O′
+
+-- an element of the table
+abbrev pub R : RattleType
+R = T.the-row
 
 -- how many keys there are
 abbrev pub most : ℕ

@@ -25,7 +25,7 @@ use Rattle.index.specs.Steps.{entriesFrom}
 use Rattle.super_block.specs.View.{SuperGood}
 use Rattle.regions.specs.Gathering.{InTheirOrder, regionKeys, all-small, keys-same}
 use Rattle.region_table.specs.declared.TableAnswer.{TableAnswer}
-use Rattle.region_table.specs.View.{lastRegions, laid, ordered, tabledView, answered, answerOf, concluded, Makes, Prepared, Orderable, Filled}
+use Rattle.region_table.specs.View.{lastRegions, laid, ordered, tabledView, answered, answerOf, concluded, Makes, Prepared, Orderable, TableFilled}
 use Rattle.region_table.specs.Entries.{LeadsTo}
 
 -- ---- PREPARED: what was gathered as keys
@@ -119,7 +119,7 @@ length-last n keys h =
     let e : length keys - (length keys - n) ≡ n = omega arith in
     length-map (drop (length keys - n) keys) keyExtent ∙ length-drop (length keys - n) keys ∙ e
 
-pub filled-laid : (s keys : List ℕ) (t₀ t₁ : List Extent) (a : TableAnswer) → Prepared s keys (length t₀) a → length keys ≡ 4_094 → t₁ ≡ laid (a .regions) keys t₀ → Filled s t₀ t₁ a
+pub filled-laid : (s keys : List ℕ) (t₀ t₁ : List Extent) (a : TableAnswer) → Prepared s keys (length t₀) a → length keys ≡ 4_094 → t₁ ≡ laid (a .regions) keys t₀ → TableFilled s t₀ t₁ a
 unfolding laid
 filled-laid s keys t₀ t₁ a p e f =
     let n = a .regions in
@@ -148,7 +148,7 @@ ordered-laid n table k₀ k₁ k₂ o e f apart′ sorted =
     ∙ sorted-extents (take n table) (drop (length k₁ - n) k₂) (o .small) (subst (λ (ks : List ℕ). Perm ks (drop (length k₁ - n) k₂)) is (sorted .same)) (sorted .ascends))
 
 -- ---- THE WHOLE: filled, put in order, and compared
-pub tabled-last : (s : List ℕ) (t₀ t₁ t₂ : List Extent) (a r : TableAnswer) (b : Bool) → Filled s t₀ t₁ a → t₂ ≡ ordered (a .regions) t₁ → b ≡ extentsInTurn 0 (take (a .regions) t₂)
+pub tabled-last : (s : List ℕ) (t₀ t₁ t₂ : List Extent) (a r : TableAnswer) (b : Bool) → TableFilled s t₀ t₁ a → t₂ ≡ ordered (a .regions) t₁ → b ≡ extentsInTurn 0 (take (a .regions) t₂)
     → r ≡ concluded a b → tabledView r t₂ ≡ tableOf s t₀
 unfolding ordered
 tabled-last s t₀ t₁ t₂ a r b f o c e =

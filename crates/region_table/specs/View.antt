@@ -69,7 +69,7 @@ pub record Orderable (n : ℕ) (table : List Extent) : Type 0 where
   pub small : All SmallExtent (take n table)
 
 -- once it is filled
-pub record Filled (s : List ℕ) (before after : List Extent) (a : TableAnswer) : Type 0 where
+pub record TableFilled (s : List ℕ) (before after : List Extent) (a : TableAnswer) : Type 0 where
   pub orderable : Orderable (a .regions) after
   pub makes : Makes s before a (take (a .regions) after)
   pub others : drop (a .regions) after ≡ drop (a .regions) before

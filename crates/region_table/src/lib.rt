@@ -18,7 +18,7 @@ ghost use Rattle.ordering.specs.Regions.{extentKey, extentsInTurn};
 ghost use Rattle.ordering.specs.Tables.{keyExtent, SmallExtent};
 ghost use Rattle.regions.specs.Gathering.{InTheirOrder};
 ghost use Rattle.super_block.specs.View.{SuperGood};
-ghost use Rattle.region_table.specs.View.{extentView, laid, ordered, tabledView, answered, answerOf, concluded, onward, Prepared, Orderable, Filled};
+ghost use Rattle.region_table.specs.View.{extentView, laid, ordered, tabledView, answered, answerOf, concluded, onward, Prepared, Orderable, TableFilled};
 ghost use Rattle.region_table.specs.Entries.{Leads, LeadsTo};
 
 // The places of a table of this crate's own.
@@ -253,7 +253,7 @@ fn neighbours_apart(table: &[Region], n: usize) -> bool
 
 // The regions of an image gathered into the table, if it has places enough.
 fn fill(image: &[u8], table: &mut [Region]) -> TableAnswer
-    ensures { λ r. ⌜ Filled (now (image .entry)) (map extentView (now (table .entry))) (map extentView (now (table .exit))) r ⌝ }
+    ensures { λ r. ⌜ TableFilled (now (image .entry)) (map extentView (now (table .entry))) (map extentView (now (table .exit))) r ⌝ }
 {
     let mut keys = [0u64; MOST];
     let found = prepare(image, &mut keys, table.len());

@@ -41,7 +41,7 @@ use denote.Triple.Walked.{says, Stays, stay-dropped, gave-slice, walkOf, goes-dr
 use denote.Exit.{yes}
 use Rattle.region_table.specs.declared.Region.{Region}
 use Rattle.region_table.specs.declared.TableAnswer.{TableAnswer}
-use Rattle.region_table.specs.View.{extentView, laid, Prepared, Filled}
+use Rattle.region_table.specs.View.{extentView, laid, Prepared, TableFilled}
 use Rattle.region_table.specs.Answers.{filled-laid}
 use Rattle.region_table.proofs.Lent.{sliceOf, repeated, big-lit, lends-array, takes-array, shares-array, takes-shared, clears-array}
 use Rattle.region_table.proofs.Walks.{most, room, unset, full, answer-is, regions-fit}
@@ -127,7 +127,7 @@ module _ {M : Type 1} (𝓤 : URA M) (H : Heap 𝓤) (A : Atoms 𝓤) (W : Given
   ready-for : (r : TableAnswer) (ks : List ℕ) → Prepared ys ks (length ts) r → Prepared ys ks (length (map extentView ts)) r
   ready-for r ks ready = subst (λ (m : ℕ). Prepared ys ks m r) (sym (length-map ts extentView)) ready
 
-  exits : (r : TableAnswer) → Is O.the-row r (O′.lowered r ∷ []) → (us : List Region) → length us ≡ length ts → Filled ys (map extentView ts) (map extentView us) r
+  exits : (r : TableAnswer) → Is O.the-row r (O′.lowered r ∷ []) → (us : List Region) → length us ≡ length ts → TableFilled ys (map extentView ts) (map extentView us) r
       → ent 𝓤 (⋆ 𝓤 H A (‵ (flft κ q) ∷ ‵ (flft κ′ q′) ∷ ‵ (finally T.the-row γ′ us) ∷ [])) (Post (O′.lowered r))
   exits r is us same told =
       qed W (‵ (flft κ q) ∷ ‵ (flft κ′ q′) ∷ ‵ (finally T.the-row γ′ us) ∷ []) ∵

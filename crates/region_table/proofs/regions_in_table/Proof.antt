@@ -46,7 +46,7 @@ use Rattle.rules.specs.RegionTable.{tableOf}
 use Rattle.region_table.specs.declared.Region.{Region}
 use Rattle.region_table.specs.declared.TableAnswer.{TableAnswer}
 use Rattle.ordering.specs.Regions.{extentsInTurn}
-use Rattle.region_table.specs.View.{extentView, ordered, tabledView, concluded, Orderable, Filled}
+use Rattle.region_table.specs.View.{extentView, ordered, tabledView, concluded, Orderable, TableFilled}
 use Rattle.region_table.specs.Answers.{tabled-last}
 use Rattle.region_table.proofs.Lent.{rowOf, lends-row, takes-row, shares-row, takes-shared-row}
 use Rattle.region_table.proofs.Walks.{answer-is, regions-fit}
@@ -82,8 +82,8 @@ within : (us vs : List Region) (n : ℕ) → n ≤ length (map extentView us) �
 within us vs n l e = subst (λ (m : ℕ). n ≤ m) (length-map us extentView ∙ e) l
 
 -- what `put_in_order` and `neighbours_apart` say
-abbrev Ordered : ℕ → List Region → List Region → Type 0
-Ordered n us vs = map extentView vs ≡ ordered n (map extentView us)
+abbrev PutInOrder : ℕ → List Region → List Region → Type 0
+PutInOrder n us vs = map extentView vs ≡ ordered n (map extentView us)
 
 abbrev InTurn : ℕ → List Region → Bool → Type 0
 InTurn n vs c = c ≡ extentsInTurn 0 (take n (map extentView vs))
@@ -197,8 +197,8 @@ module _ {M : Type 1} (𝓤 : URA M) (H : Heap 𝓤) (A : Atoms 𝓤) (W : Given
         calls-at ! (fmOf 𝓤 H (W .laws) 𝓣) (Fill 𝓤 H A mem run) known-fill (to-fill α δ) (and-then ! (load ! (from ! (stop !)) (look ! 28 refl)) (and-then ! (load ! (from ! (stop !)) (look ! 16 refl)) (no-more !))) (λ w.
         use1 W (later (some (λ (r : TableAnswer). ((‵ (flft κ q) ⊛ ‵ (flft (α ∷ []) fullShare) ⊛ ‵ ftrue) ⊛ ‵ (O.the-row .own r (w ∷ []))) ⊛ raw (ensured 𝓤 H A fill.ended (fill.clauses 𝓤 H A mem run) (κ, (α ∷ [], tt)) (x, (lent δ ts, tt)) tt r)))) (id⊢ 𝓤 _) $ await ! tt $ pick ! (λ r.
         -- what it ensures, at some table
-        split ! $ move ! (1 ∷ []) $ use1 W (some (λ (us : Unit {0} × (List Region × Unit {0})). ‵ (lasts fill.ended (κ, (α ∷ [], tt)) (x, (lent δ ts, tt)) us) ⊛ raw (fact 𝓤 (Filled ys (map extentView ts) (map extentView (us .1 .0)) r)))) (id⊢ 𝓤 _) $ pick ! (λ us.
-        split ! $ move ! (1 ∷ []) $ heard ! (Filled ys (map extentView ts) (map extentView (us .1 .0)) r) (λ filled. fsplit ! $ drop ! $ fsplit ! $ fsplit ! $ move ! (1 ∷ []) $ drop ! $ move ! (1 ∷ []) $ drop ! $
+        split ! $ move ! (1 ∷ []) $ use1 W (some (λ (us : Unit {0} × (List Region × Unit {0})). ‵ (lasts fill.ended (κ, (α ∷ [], tt)) (x, (lent δ ts, tt)) us) ⊛ raw (fact 𝓤 (TableFilled ys (map extentView ts) (map extentView (us .1 .0)) r)))) (id⊢ 𝓤 _) $ pick ! (λ us.
+        split ! $ move ! (1 ∷ []) $ heard ! (TableFilled ys (map extentView ts) (map extentView (us .1 .0)) r) (λ filled. fsplit ! $ drop ! $ fsplit ! $ fsplit ! $ move ! (1 ∷ []) $ drop ! $ move ! (1 ∷ []) $ drop ! $
         -- [the table's last list; the tokens and the result; …]
         move ! (1 ∷ []) $ split ! $ move ! (1 ∷ []) $ facts ! O.the-row (Is O.the-row) (shows 𝓤 H A O.the-row) r (w ∷ []) (λ answered.
         land ! (from ! (stop !)) (init ! 25 refl (LL.lawful O.the-type O′.the-laws 𝓤 H A W .typed r _ answered .0)) $ rewrite ! 25 (λ (u : Val). ‵ (fat fullShare O′.mir l₃ 0 u)) (ap only (LL.tells O.the-type O′.the-laws r _ answered)) refl $
@@ -213,8 +213,8 @@ module _ {M : Type 1} (𝓤 : URA M) (H : Heap 𝓤) (A : Atoms 𝓤) (W : Given
         move ! (1 ∷ 0 ∷ []) $ use2 W (raw (Put 𝓤 H A mem run .pre (to-put β ε (us .1 .0) (r .regions)))) (goes-put β ε (us .1 .0) (r .regions) (regions-fit r w answered) (filled .orderable)) $
         calls-at ! (fmOf 𝓤 H (W .laws) 𝓣) (Put 𝓤 H A mem run) known-put (to-put β ε (us .1 .0) (r .regions)) (and-then ! (load ! (from ! (stop !)) (look ! 12 refl)) (and-then ! (load ! (from ! (stop !)) (look ! 24 refl)) (no-more !))) (λ w′.
         use1 W (later (some (λ (u : Unit {0}). ((‵ (flft (β ∷ []) fullShare) ⊛ ‵ ftrue) ⊛ ‵ (unit .own u (w′ ∷ []))) ⊛ raw (ensured 𝓤 H A put.ended (put.clauses 𝓤 H A mem run) (β ∷ [], tt) (lent ε (us .1 .0), (r .regions, tt)) tt u)))) (id⊢ 𝓤 _) $ await ! tt $ pick ! (λ u.
-        split ! $ move ! (1 ∷ []) $ use1 W (some (λ (vs : List Region × (Unit {0} × Unit {0})). ‵ (lasts put.ended (β ∷ [], tt) (lent ε (us .1 .0), (r .regions, tt)) vs) ⊛ raw (fact 𝓤 (Ordered (r .regions) (us .1 .0) (vs .0))))) (id⊢ 𝓤 _) $ pick ! (λ vs.
-        split ! $ move ! (1 ∷ []) $ heard ! (Ordered (r .regions) (us .1 .0) (vs .0)) (λ sorted. fsplit ! $ fsplit ! $ move ! (1 ∷ []) $ drop ! $ move ! (1 ∷ []) $ drop ! $
+        split ! $ move ! (1 ∷ []) $ use1 W (some (λ (vs : List Region × (Unit {0} × Unit {0})). ‵ (lasts put.ended (β ∷ [], tt) (lent ε (us .1 .0), (r .regions, tt)) vs) ⊛ raw (fact 𝓤 (PutInOrder (r .regions) (us .1 .0) (vs .0))))) (id⊢ 𝓤 _) $ pick ! (λ vs.
+        split ! $ move ! (1 ∷ []) $ heard ! (PutInOrder (r .regions) (us .1 .0) (vs .0)) (λ sorted. fsplit ! $ fsplit ! $ move ! (1 ∷ []) $ drop ! $ move ! (1 ∷ []) $ drop ! $
         move ! (1 ∷ []) $ split ! $ move ! (1 ∷ []) $ facts ! unit (Is unit) (shows 𝓤 H A unit) u (w′ ∷ []) (λ returned. land ! (from ! (stop !)) (init ! 17 refl (nothing-lawful 𝓤 H A W .typed u _ returned .0)) $
         split ! $ move ! (0 ∷ 3 ∷ 2 ∷ []) $ takes-row ! tt T.the-row (length ts) b′ o′ (vs .0) (λ same′.
         -- [the row; …]: _11 is the table's address, _12 its slice, lent to be read for a lifetime β′ under the name ε′
