@@ -7,7 +7,7 @@ use native.Mathlib.Omega.{arith}
 use native.Mathlib.Decide.{decLt}
 use lib.Dec.{leb}
 use borrow.Author.Tests.{ltb-true}
-use Rattle.rules.specs.Lists.{everyTwo, only, All, Pairs, Perm, thus}
+use Rattle.rules.specs.Lists.{everyTwo, only, All, Pairs, Perm}
 use Rattle.rules.specs.Index.{Entry}
 use Rattle.rules.specs.Regions.{Extent, extentOf, apart}
 use Rattle.rules.specs.RegionTable.{regionsOf, extentLe, inOrder}
@@ -40,8 +40,8 @@ module _ (x : Extent) (small : SmallExtent x) where
   unfolding keyExtent
   key-back = ap₂ (λ (a b : ℕ). record { start = a; end = b }) start-back end-back
 
-pub keys-back : (xs : List Extent) → All SmallExtent xs → map keyExtent (map extentKey xs) ≡ xs
-keys-back xs small = map-map keyExtent extentKey xs ∙ map-same (λ x. keyExtent (extentKey x)) xs (all-weaken SmallExtent _ key-back xs small)
+extents-back : (xs : List Extent) → All SmallExtent xs → map keyExtent (map extentKey xs) ≡ xs
+extents-back xs small = map-map keyExtent extentKey xs ∙ map-same (λ x. keyExtent (extentKey x)) xs (all-weaken SmallExtent _ key-back xs small)
 
 -- ---- in order
 -- keys in order are regions by start, then end
@@ -67,12 +67,8 @@ ascending-keys (x ∷ xs) small p =
 -- THE ORDER: regions taken apart, their keys put in order, are the regions in order
 pub sorted-extents : (xs : List Extent) (ks : List ℕ) → All SmallExtent xs → Perm (map extentKey xs) ks → Pairs (λ a b. a / 65_536 ≤ b / 65_536) ks → map keyExtent ks ≡ inOrder xs
 sorted-extents xs ks small p ascends =
-    sym (in-order-only xs (map keyExtent ks) (subst (λ (ys : List Extent). Perm ys (map keyExtent ks)) (keys-back xs small) (perm-map keyExtent p))
+    sym (in-order-only xs (map keyExtent ks) (subst (λ (ys : List Extent). Perm ys (map keyExtent ks)) (extents-back xs small) (perm-map keyExtent p))
     (pairs-map _ (λ x y. extentLe x y ≡ true) keyExtent key-le ks ascends))
-
--- regions in another sequence have the same order
-pub same-order : (xs ys : List Extent) → Perm xs ys → inOrder xs ≡ inOrder ys
-same-order xs ys p = in-order-only xs (inOrder ys) (thus p (in-order-same ys)) (in-order-ascends ys)
 
 -- ---- neighbours
 turn-extents : (b : ℕ) (xs : List Extent) → All SmallExtent xs → inTurn b (map extentKey xs) ≡ extentsInTurn b xs
@@ -98,7 +94,7 @@ module _ (es : List Entry) (small : All Small es) where
   -- and what the keys say
   pub regions-of-keys : (ks : List ℕ) → Perm (map regionKey (only hasRegion es)) ks → Perm (regionsOf es) (map keyExtent ks)
   regions-of-keys ks p =
-      subst (λ (xs : List Extent). Perm xs (map keyExtent ks)) (ap (map keyExtent) keys-of-regions ∙ keys-back (regionsOf es) regions-small) (perm-map keyExtent p)
+      subst (λ (xs : List Extent). Perm xs (map keyExtent ks)) (ap (map keyExtent) keys-of-regions ∙ extents-back (regionsOf es) regions-small) (perm-map keyExtent p)
 
   -- NEIGHBOURS DECIDE: no two share a block exactly where each, in order, starts at or past the end of the one before it
   pub neighbours-decide : everyTwo apart es ≡ extentsInTurn 0 (inOrder (regionsOf es))

@@ -14,10 +14,10 @@ use Rattle.rules.specs.Index.{Entry, itemsOf, entriesOf}
 use Rattle.rules.specs.Regions.{Extent, regionGood, regionsSound}
 use Rattle.rules.specs.Refusals.{refused, accepted}
 use Rattle.rules.specs.RegionTable.{regionsOf, inOrder, apartNumber, untabled, judgeBounds, tableOf, sharingOf}
-use Rattle.rules.specs.RegionTable.Laws.{in-order-same, bounds-bad-regions, bounds-good, table-refused, table-short, table-told, sharing-sound, sharing-unsound}
+use Rattle.rules.specs.RegionTable.Laws.{perm-order, in-order-same, bounds-bad-regions, bounds-good, table-refused, table-short, table-told, sharing-sound, sharing-unsound}
 use Rattle.laws.proofs.Lists.Perms.{perm-all, perm-length}
 use Rattle.ordering.specs.Regions.{extentKey, extentsInTurn, Small}
-use Rattle.ordering.specs.Tables.{keyExtent, SmallExtent, sorted-extents, same-order, regions-small, regions-of-keys, neighbours-decide}
+use Rattle.ordering.specs.Tables.{keyExtent, SmallExtent, sorted-extents, regions-small, regions-of-keys, neighbours-decide}
 use Rattle.geometry.specs.declared.Geometry.{Geometry}
 use Rattle.geometry.specs.View.{geometryView}
 use Rattle.index.specs.declared.Cursor.{Cursor}
@@ -67,7 +67,7 @@ module _ (s keys : List ℕ) (places i : ℕ) (es : List Entry) (bounded : judge
       ap (λ (n : ℕ). map keyExtent (drop n keys)) e
 
   in-order : inOrder (lastRegions (length keys - i) keys) ≡ inOrder (regionsOf es)
-  in-order = ap inOrder last-are ∙ sym (same-order _ _ held)
+  in-order = ap inOrder last-are ∙ sym (perm-order held)
 
   how-many : length (inOrder (regionsOf es)) ≡ length keys - i
   how-many = sym (perm-length (in-order-same (regionsOf es))) ∙ perm-length held ∙ length-map (drop i keys) keyExtent ∙ length-drop i keys

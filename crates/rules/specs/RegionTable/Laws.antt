@@ -122,7 +122,7 @@ either-first x y (z ∷ zs) = by (extentLe x z) refl (extentLe y z) refl (either
 
 -- ---- REGIONS IN ORDER ARE ONE LIST
 -- whatever order they come in
-perm-order : {xs ys : List Extent} → Perm xs ys → inOrder xs ≡ inOrder ys
+pub perm-order : {xs ys : List Extent} → Perm xs ys → inOrder xs ≡ inOrder ys
 unfolding inOrder
 perm-order same = refl
 perm-order (keep {x = x} p) = ap (inserted x) (perm-order p)
