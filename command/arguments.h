@@ -14,6 +14,7 @@ enum option {
     OPTION_FORCE,
     OPTION_LONG,
     OPTION_ONE,
+    OPTION_KEEP,
     OPTION_STAMP,
     OPTION_HELP,
     OPTIONS

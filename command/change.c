@@ -28,7 +28,7 @@ int change_image(const struct arguments *arguments, image_work *work, const void
     return place_leave(&place, status);
 }
 
-/* What sfs_create_directory, sfs_delete and sfs_restore are. */
+/* What sfs_create_directory, sfs_delete, sfs_delete_keep and sfs_restore are. */
 typedef uint32_t path_call(uint8_t *image, size_t image_len, const uint8_t *path, size_t path_len, int64_t stamp);
 
 static int change_paths(const struct change *change, path_call *call) {
@@ -46,8 +46,32 @@ static int make_directories(struct change *change) {
     return change_paths(change, sfs_create_directory);
 }
 
+/*
+ * Of one path the image takes the blocks that are wiped. They are found before the call, as nothing tells afterwards where they
+ * were. The call's refusal is told first, since it alone may be 9.
+ */
+static int wipe_one(struct change *change) {
+    const char *path = change->arguments->operands[1];
+    struct range region;
+    uint32_t refusal = image_region(&change->image, path, &region);
+    int status = change_paths(change, sfs_delete);
+    if (status == 0)
+        status = change_status(change, path, refusal);
+    return status == 0 ? image_take_region(&change->image, region) : status;
+}
+
+/* As a put of several: the data area is read and taken as a whole, and before the calls, which trim it. */
+static int wipe_several(struct change *change) {
+    int status = image_read_between(&change->image);
+    if (status == 0)
+        status = change_status(change, NULL, image_take_data_area(&change->image));
+    return status == 0 ? change_paths(change, sfs_delete) : status;
+}
+
 static int delete_entries(struct change *change) {
-    return change_paths(change, sfs_delete);
+    if (given(change->arguments, OPTION_KEEP))
+        return change_paths(change, sfs_delete_keep);
+    return change->arguments->operand_count == 2 ? wipe_one(change) : wipe_several(change);
 }
 
 static int restore_entries(struct change *change) {

@@ -4,8 +4,8 @@
  *
  * Not all of it is read, as most of the time would go there. A volume is judged by its super-block, which lies in the first
  * 512 bytes, and its index, which lies in the last SFS_INDEX_MAX; and beside these a call writes the blocks of the file that it
- * creates, and reads those of the file that it reads, and no other byte (docs/RULES.md; the library's contracts say so). What
- * lies between is read only where a call is to find it there.
+ * creates or wipes, and reads those of the file that it reads, and no other byte (docs/RULES.md; the library's contracts say so).
+ * What lies between is read only where a call is to find it there.
  */
 #define _POSIX_C_SOURCE 200809L
 #include "image.h"
@@ -101,19 +101,19 @@ int image_read_between(const struct image *image) {
     return is_as_long(image) == 0 ? 0 : system_error("%s", image->name);
 }
 
-/* All sizes are below 2^24 in a good volume. */
+/* All sizes are below 2^24 in a good volume. No region starts with block 0, which is reserved. */
 uint32_t image_region(const struct image *image, const char *path, struct range *region) {
     uint8_t name[SFS_VOLUME_NAME_MAX];
     struct sfs_entry found = sfs_find(image->bytes, image->length, (const uint8_t *)path, strlen(path));
     *region = (struct range){0, 0};
-    if (found.refusal != SFS_OK || found.length == 0)
+    if (found.refusal != SFS_OK || found.start == 0)
         return found.refusal;
     struct sfs_volume volume = sfs_open(image->bytes, image->length, name, sizeof name);
     if (volume.refusal != SFS_OK)
         return volume.refusal;
-    uint64_t blocks = (found.length + volume.block_length - 1) / volume.block_length;
+    uint64_t past = volume.edition == SFS_VERSION_1_10 ? found.end + 1 : found.end;
     region->start = (size_t)(found.start * volume.block_length);
-    region->end = (size_t)((found.start + blocks) * volume.block_length);
+    region->end = (size_t)(past * volume.block_length);
     return SFS_OK;
 }
 

@@ -17,7 +17,7 @@
 /* The parts that are in memory, in their order. They begin and end with pieces; the last ends with the image. */
 enum part {
     PART_HEAD, /* the super-block's piece */
-    PART_BODY, /* blocks that a call has written; empty before */
+    PART_BODY, /* blocks that calls write; empty at first */
     PART_TAIL, /* an index area of any length */
     PARTS
 };
@@ -48,13 +48,13 @@ size_t image_length(const struct stat *file);
 int image_read_range(const struct image *image, struct range range);
 int image_read_between(const struct image *image);
 
-/* Where the blocks of a live path lie; nowhere where it is a directory, or has none. Gives the library's refusal. */
+/* Where the blocks of a live path lie, whatever a file's length is; nowhere where it has none. Gives the library's refusal. */
 uint32_t image_region(const struct image *image, const char *path, struct range *region);
 
 /* Makes the body what a call has written between head and tail, with what its pieces hold beside that. */
 int image_take_region(struct image *image, struct range written);
 
-/* Makes the body the data area; all between head and tail was read before the calls. */
+/* Makes the body the data area as it is now; all between head and tail was read before the calls. */
 uint32_t image_take_data_area(struct image *image);
 
 /* For a command that loads several; else the memory is kept until the command ends. */

@@ -18,6 +18,7 @@
     (OPTION(OPTION_SIZE) | OPTION(OPTION_EDITION) | OPTION(OPTION_BLOCK_LENGTH) | OPTION(OPTION_RESERVED) | OPTION(OPTION_NAME) \
      | OPTION(OPTION_FORCE) | STAMP)
 #define LS_OPTIONS (OPTION(OPTION_LONG) | OPTION(OPTION_ONE))
+#define RM_OPTIONS (OPTION(OPTION_KEEP) | STAMP)
 #define REPORT_LIMITS \
     "It uses the first 1,000 names, of at most 255 bytes each, and images of at most 65,536 bytes:\n" \
     "a longer name is unread, a longer image is refused with 1.\n"
@@ -38,8 +39,8 @@ static const struct command {
     {"cat", "IMAGE PATH...", "print the bytes of files", 2, INT_MAX, false, 0, run_cat, ""},
     {"put", "IMAGE FILE... PATH", "put files into a directory, or one under a path of its own", 3, INT_MAX, true, STAMP, run_put, ""},
     {"mkdir", "IMAGE PATH...", "make directories", 2, INT_MAX, true, STAMP, run_mkdir, ""},
-    {"rm", "IMAGE PATH...", "delete files and empty directories", 2, INT_MAX, true, STAMP, run_rm, ""},
-    {"restore", "IMAGE PATH...", "bring deleted entries back (edition 1.0)", 2, INT_MAX, true, STAMP, run_restore, ""},
+    {"rm", "IMAGE PATH...", "delete files and empty directories, and wipe them", 2, INT_MAX, true, RM_OPTIONS, run_rm, ""},
+    {"restore", "IMAGE PATH...", "bring back what 'rm --keep' deleted (edition 1.0)", 2, INT_MAX, true, STAMP, run_restore, ""},
     {"reclaim", "IMAGE", "free what deleted entries hold", 1, 1, true, STAMP, run_reclaim, ""},
     {"check", "IMAGE...", "say whether volumes are good, or which rule they break", 1, INT_MAX, false, 0, run_check, ""},
     {"report", "FILE...", "add up how the images of files are filled", 1, INT_MAX, false, 0, run_report, REPORT_LIMITS},

@@ -1,6 +1,6 @@
 /*
- * The same afternoon: a notice is deleted at ten and wanted at three. Until the volume is reclaimed it can come back, with its
- * bytes; which of two deleted notices is meant, the store does not guess.
+ * The same afternoon: a notice is deleted at ten and wanted at three. It was deleted by the call that keeps, so that until the
+ * volume is reclaimed it can come back, with its bytes; which of two deleted notices is meant, the store does not guess.
  * Build: cc -o notice notice.c $(pkg-config --cflags --libs sfs)
  */
 #include <sfs.h>
@@ -30,7 +30,7 @@ static void put_up(int hour, const uint8_t *text, size_t length) {
 }
 
 static void take_down(int hour) {
-    expect("take down", sfs_delete(volume, VOLUME_BYTES, path, sizeof path - 1, at(hour)));
+    expect("take down", sfs_delete_keep(volume, VOLUME_BYTES, path, sizeof path - 1, at(hour)));
 }
 
 static void bring_back(int hour) {

@@ -25,14 +25,14 @@ static void put_up(uint8_t *volume, const char *path, const char *text) {
                                      strlen(text), 0));
 }
 
-/* A directory and two notices, of which the second is deleted: in edition 1.0 it keeps its block, in 1.10 it is an unused slot. */
+/* A directory and two notices, of which the first is deleted and kept: in edition 1.0 it has its block, in 1.10 it is an unused slot. */
 static void fill(uint8_t *volume, uint64_t version) {
     static const uint8_t name[] = "SQUARE", notices[] = "notices", monday[] = "notices/monday";
     expect("format", sfs_format(volume, VOLUME_BYTES, version, 512, 1, name, sizeof name - 1, 0));
     expect("directory", sfs_create_directory(volume, VOLUME_BYTES, notices, sizeof notices - 1, 0));
     put_up(volume, "notices/monday", "Closed on Monday");
     put_up(volume, "notices/tuesday", "Open on Tuesday");
-    expect("take down", sfs_delete(volume, VOLUME_BYTES, monday, sizeof monday - 1, 0));
+    expect("take down", sfs_delete_keep(volume, VOLUME_BYTES, monday, sizeof monday - 1, 0));
 }
 
 /* An image that is refused is a part of the report; only a report that is too short is not counted. */

@@ -8,9 +8,9 @@
  * anything else. Its refusal number is 0 on success. After a refusal every other number of the answer is 0, and no byte of the
  * image or of a lent output has changed; only sfs_report_add counts the refusal of an image in the report.
  *
- * The magic decides a volume's edition, and all calls serve both. In 1.10 a delete frees slots and blocks at once, so that
- * nothing can be restored; and every accepted call that writes, format apart, first rewrites deleted runs and stray slots,
- * which other programs leave, as unused slots.
+ * The magic decides a volume's edition, and all calls serve both. In 1.10 no delete leaves anything that could be restored;
+ * and every accepted call that writes, format apart, first rewrites deleted runs and stray slots, which other programs leave,
+ * as unused slots.
  *
  * Slices: a pointer and a length. The pointer of an empty slice may be NULL, any other may not. The slices of one call
  * lie apart in memory; no call can check that.
@@ -31,8 +31,8 @@
 extern "C" {
 #endif
 
-/* The number of this interface, raised whenever a struct or an argument changes. sfs_api() gives the library's own. */
-#define SFS_API 1u
+/* The number of this interface, raised whenever a struct, an argument or what a call does changes; sfs_api() is the library's. */
+#define SFS_API 2u
 
 /* Sizes. */
 #define SFS_IMAGE_MIN 512u
@@ -208,22 +208,31 @@ uint32_t sfs_create_file(uint8_t *image, size_t image_len, const uint8_t *path, 
 uint32_t sfs_create_directory(uint8_t *image, size_t image_len, const uint8_t *path, size_t path_len, int64_t stamp);
 
 /*
- * Deletes a file or an empty directory. In edition 1.0 its slots and blocks stay held until a reclaim; before that,
- * sfs_restore can bring it back. In 1.10 they are free at once, and the stamp appears nowhere. Refusals: 1 to 11, 14.
+ * Deletes a file or an empty directory and wipes it, in both editions. Every byte of a file's region, also behind the file's
+ * length, becomes zero, and the entry's slots become unused ones: no byte of the content is left in the region, and the name
+ * is not in the slots. The data area is trimmed to the regions that are left, those of kept deleted files among them, and only
+ * if its size changes the volume gets the stamp. What was deleted cannot be restored. Refusals: 1 to 11, 14.
  */
 uint32_t sfs_delete(uint8_t *image, size_t image_len, const uint8_t *path, size_t path_len, int64_t stamp);
 
 /*
- * Brings the deleted file or directory of a path back, with its bytes and with this stamp; a directory comes back without
- * what was below it. 11: no deleted entry has the path, live or not. 12: one has, and the path is live again. 13: its
- * directory is not live. 19: two or more deleted entries have the path, and none is chosen. In edition 1.10 no deleted entry
- * is kept, so that a volume that opens gets 10 or 11. Refusals: 1 to 13, 19.
+ * Deletes a file or an empty directory, and wipes and trims nothing. In edition 1.0 its slots and blocks stay held until a
+ * reclaim; before that, sfs_restore can bring it back. In 1.10 its slots become unused ones and its blocks are free at once:
+ * it cannot be restored, and the stamp appears nowhere. Refusals: 1 to 11, 14, each where sfs_delete gives it.
+ */
+uint32_t sfs_delete_keep(uint8_t *image, size_t image_len, const uint8_t *path, size_t path_len, int64_t stamp);
+
+/*
+ * Brings the file or directory of a path back that was deleted by sfs_delete_keep, with its bytes and with this stamp; a
+ * directory comes back without what was below it. 11: no deleted entry has the path, live or not. 12: one has, and the path
+ * is live again. 13: its directory is not live. 19: two or more deleted entries have the path, and none is chosen. In edition
+ * 1.10 no deleted entry is kept, so that a volume that opens gets 10 or 11. Refusals: 1 to 13, 19.
  */
 uint32_t sfs_restore(uint8_t *image, size_t image_len, const uint8_t *path, size_t path_len, int64_t stamp);
 
 /*
  * Frees what deleted entries hold, which cannot be restored any more, and trims the data area to the regions that are left;
- * in edition 1.10 it only trims. Refusals: 1 to 9.
+ * in edition 1.10 it only trims. It wipes no block. Refusals: 1 to 9.
  */
 uint32_t sfs_reclaim(uint8_t *image, size_t image_len, int64_t stamp);
 

@@ -28,6 +28,7 @@ static uint32_t read_it(void) { return sfs_read(image, IMAGE, last, 10, out, siz
 static uint32_t create_it(void) { return sfs_create_file(image, IMAGE, (const uint8_t *)"new", 3, out, sizeof out, 1); }
 static uint32_t make_it(void) { return sfs_create_directory(image, IMAGE, (const uint8_t *)"new", 3, 1); }
 static uint32_t delete_it(void) { return sfs_delete(image, IMAGE, last, 10, 1); }
+static uint32_t delete_keep_it(void) { return sfs_delete_keep(image, IMAGE, last, 10, 1); }
 /* In 1.10 nothing comes back. */
 static uint32_t restore_it(void) {
     uint32_t refusal = sfs_restore(image, IMAGE, gone, 4, 1);
@@ -80,7 +81,7 @@ static size_t stack_of(uint32_t (*call)(void), uint32_t *refusal) {
 
 /* A deleted file. A delete in 1.10 leaves none, so it is made as other programs make one: the type, and the sum with it. */
 static int drop(uint8_t *volume) {
-    if (edition == SFS_VERSION_1_0) return sfs_delete(volume, IMAGE, gone, 4, 1) != 0;
+    if (edition == SFS_VERSION_1_0) return sfs_delete_keep(volume, IMAGE, gone, 4, 1) != 0;
     struct sfs_entry found = sfs_find(volume, IMAGE, gone, 4);
     uint8_t *slot = volume + IMAGE - sfs_open(volume, IMAGE, out, sizeof out).index_bytes + found.slot * SFS_SLOT_BYTES;
     slot[0] = 0x1A;
@@ -119,6 +120,7 @@ static unsigned measured(const char *name, unsigned *count) {
         {"open", open_it, full}, {"find", find_it, full}, {"list", list_it, full}, {"list_all", list_all_it, full},
         {"read", read_it, full},
         {"create_file", create_it, less}, {"create_directory", make_it, less}, {"delete", delete_it, full},
+        {"delete_keep", delete_keep_it, full},
         {"restore", restore_it, full}, {"reclaim", reclaim_it, full}, {"format", format_it, full}, {"listing", listing_it, full},
         {"report_add", report_add_it, full}, {"report_text", report_text_it, full},
     };

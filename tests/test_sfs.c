@@ -64,7 +64,7 @@ NUMBER(SFS_RECORD_STAMP, 40);
 NUMBER(SFS_RECORD_PATH_LENGTH, 48);
 NUMBER(SFS_RECORD_PATH, 56);
 NUMBER(SFS_RECORDS_ROOM, 491520);
-NUMBER(SFS_API, 1);
+NUMBER(SFS_API, 2);
 
 NUMBER(SFS_OK, 0);
 NUMBER(SFS_IMAGE_LENGTH, 1);
@@ -192,6 +192,9 @@ static void empty_slices(void) {
     CHECK(sfs_create_file(NULL, 0, B("a"), NULL, 0, 0) == SFS_IMAGE_LENGTH);
     CHECK(sfs_create_directory(NULL, 0, B("a"), 0) == SFS_IMAGE_LENGTH);
     CHECK(sfs_delete(NULL, 0, B("a"), 0) == SFS_IMAGE_LENGTH);
+    CHECK(sfs_delete(NULL, 0, NULL, 0, 0) == SFS_IMAGE_LENGTH);
+    CHECK(sfs_delete_keep(NULL, 0, B("a"), 0) == SFS_IMAGE_LENGTH);
+    CHECK(sfs_delete_keep(NULL, 0, NULL, 0, 0) == SFS_IMAGE_LENGTH);
     CHECK(sfs_restore(NULL, 0, B("a"), 0) == SFS_IMAGE_LENGTH);
     CHECK(sfs_restore(NULL, 0, NULL, 0, 0) == SFS_IMAGE_LENGTH);
     CHECK(sfs_reclaim(NULL, 0, 0) == SFS_IMAGE_LENGTH);
@@ -292,10 +295,10 @@ static void every_field(uint32_t edition) {
     free(out);
 }
 
-/* A delete changes the type and the stamp of its entry, nine bytes; a reclaim gives its own stamp where a size changes. */
+/* A keeping delete changes the type and the stamp of its entry, nine bytes; a reclaim gives its own stamp where a size changes. */
 static void stamps_of_writes(void) {
     uint8_t *image = stamped(SFS_VERSION_1_0), *before = stamped(SFS_VERSION_1_0), *slot = before + 65536 - 320 + 64, out[6];
-    CHECK(sfs_delete(image, 65536, B("d/the-second"), DELETED) == SFS_OK);
+    CHECK(sfs_delete_keep(image, 65536, B("d/the-second"), DELETED) == SFS_OK);
     memcpy(slot, "\x1A\0\x73\xEC\xFF\xFF\xFF\xFF\xFF\xFF", 10);
     CHECK(memcmp(image, before, 65536) == 0);
     CHECK(volume_is(sfs_open(image, 65536, out, 6), stamped_volume(SFS_VERSION_1_0)));
@@ -350,25 +353,42 @@ static void reads(void) {
     free(image);
 }
 
-static void deletes(void) {
+/* The text of an image is the wanted one. */
+static int text_is(const uint8_t *image, size_t n, const char *wanted) {
+    uint8_t *out = new_image(SFS_LISTING_ROOM);
+    size_t length = strlen(wanted);
+    struct sfs_content text = sfs_listing(image, n, out, SFS_LISTING_ROOM);
+    int same = content_is(text, (struct sfs_content){.length = length}) && memcmp(out, wanted, length) == 0 && out[length] == 0;
+    free(out);
+    return same;
+}
+
+/* What sfs_delete and sfs_delete_keep are. */
+typedef uint32_t delete_call(uint8_t *image, size_t image_len, const uint8_t *path, size_t path_len, int64_t stamp);
+
+/* By either call a path is gone; only the one that wipes trims the data area, which else waits for a reclaim. */
+static void deletes(delete_call *call, uint64_t data_blocks) {
     uint8_t *image = session(), out[16];
-    CHECK(sfs_delete(image, 65536, B("session"), 1) == SFS_NOT_EMPTY);
-    CHECK(sfs_delete(image, 65536, B("session/verified"), 1) == SFS_OK);
-    CHECK(sfs_delete(image, 65536, B("session/verified"), 1) == SFS_NOT_FOUND);
+    CHECK(call(image, 65536, B("session"), 1) == SFS_NOT_EMPTY);
+    CHECK(call(image, 65536, B("session/verified"), 1) == SFS_OK);
+    CHECK(call(image, 65536, B("session/verified"), 1) == SFS_NOT_FOUND);
     CHECK(zero_entry(sfs_find(image, 65536, B("session/verified")), SFS_NOT_FOUND));
+    CHECK(sfs_open(image, 65536, out, 16).data_blocks == data_blocks);
     CHECK(sfs_reclaim(image, 65536, 2) == SFS_OK);
     CHECK(sfs_open(image, 65536, out, 16).data_blocks == 0);
+    CHECK(call(image, 65536, B("session"), 1) == SFS_OK);
+    CHECK(text_is(image, 65536, "TERM7\nlive 0 held 0\n"));
     free(image);
 }
 
-/* A delete, then a restore: with the old stamp the image is what it was, with another one only the entry's stamp is new. */
+/* A keeping delete, then a restore: with the old stamp the image is what it was, with another one only the entry's stamp is new. */
 static void restores(void) {
     uint8_t *image = stamped(SFS_VERSION_1_0), *before = stamped(SFS_VERSION_1_0), *slot = before + 65536 - 320 + 64, out[6];
     struct sfs_entry found = sfs_find(image, 65536, B("d/the-second"));
-    CHECK(sfs_delete(image, 65536, B("d/the-second"), DELETED) == SFS_OK);
+    CHECK(sfs_delete_keep(image, 65536, B("d/the-second"), DELETED) == SFS_OK);
     CHECK(sfs_restore(image, 65536, B("d/the-second"), found.stamp) == SFS_OK);
     CHECK(memcmp(image, before, 65536) == 0);
-    CHECK(sfs_delete(image, 65536, B("d/the-second"), DELETED) == SFS_OK);
+    CHECK(sfs_delete_keep(image, 65536, B("d/the-second"), DELETED) == SFS_OK);
     CHECK(sfs_restore(image, 65536, B("d/the-second"), -2) == SFS_OK);
     memcpy(slot, "\x12\0\xFE\xFF\xFF\xFF\xFF\xFF\xFF\xFF", 10);
     CHECK(memcmp(image, before, 65536) == 0);
@@ -384,8 +404,8 @@ static void restores(void) {
 /* A directory comes back without what was below it, and what was below it only once the directory is there. */
 static void restores_directories(void) {
     uint8_t *image = session(), out[4] = {0};
-    CHECK(sfs_delete(image, 65536, B("session/verified"), 1) == SFS_OK);
-    CHECK(sfs_delete(image, 65536, B("session"), 2) == SFS_OK);
+    CHECK(sfs_delete_keep(image, 65536, B("session/verified"), 1) == SFS_OK);
+    CHECK(sfs_delete_keep(image, 65536, B("session"), 2) == SFS_OK);
     CHECK(sfs_restore(image, 65536, B("session/verified"), 3) == SFS_NO_DIRECTORY);
     CHECK(sfs_restore(image, 65536, B("session"), 3) == SFS_OK);
     CHECK(sfs_find(image, 65536, B("session")).kind == SFS_DIRECTORY);
@@ -411,16 +431,16 @@ static void restores_refused(void) {
     uint8_t *image = session();
     CHECK(refused_restore(image, B("session/verified")) == SFS_NOT_FOUND); /* live, and none deleted */
     CHECK(refused_restore(image, B("none/verified")) == SFS_NOT_FOUND);    /* no directory either */
-    CHECK(sfs_delete(image, 65536, B("session/verified"), 1) == SFS_OK);
+    CHECK(sfs_delete_keep(image, 65536, B("session/verified"), 1) == SFS_OK);
     CHECK(sfs_create_directory(image, 65536, B("session/verified"), 2) == SFS_OK);
-    CHECK(sfs_delete(image, 65536, B("session/verified"), 3) == SFS_OK);
+    CHECK(sfs_delete_keep(image, 65536, B("session/verified"), 3) == SFS_OK);
     CHECK(refused_restore(image, B("session/verified")) == SFS_AMBIGUOUS); /* a file and a directory */
     CHECK(refused_restore(image, B("session//verified")) == SFS_NAME);
     CHECK(refused_restore(image, NULL, 0) == SFS_NAME);
     CHECK(sfs_create_file(image, 65536, B("session/verified"), NULL, 0, 4) == SFS_OK);
     CHECK(refused_restore(image, B("session/verified")) == SFS_EXISTS); /* and two deleted */
-    CHECK(sfs_delete(image, 65536, B("session/verified"), 5) == SFS_OK);
-    CHECK(sfs_delete(image, 65536, B("session"), 6) == SFS_OK);
+    CHECK(sfs_delete_keep(image, 65536, B("session/verified"), 5) == SFS_OK);
+    CHECK(sfs_delete_keep(image, 65536, B("session"), 6) == SFS_OK);
     CHECK(refused_restore(image, B("session/verified")) == SFS_NO_DIRECTORY); /* and three deleted */
     image[0x1AF]++;
     image[0x1BD]--;
@@ -433,21 +453,55 @@ static void restores_refused(void) {
     free(image);
 }
 
-/* After 64,000 bytes five empty files are accepted and the sixth is 15; deleting changes nothing; a reclaim does. */
-static void full_volume(void) {
+/* What was wiped does not come back; of two deleted files of a path, one of them kept, the kept one does. */
+static void restores_kept_alone(void) {
+    uint8_t *image = session(), out[4] = {0};
+    CHECK(sfs_delete_keep(image, 65536, B("session/verified"), 1) == SFS_OK);
+    CHECK(sfs_create_file(image, 65536, B("session/verified"), B("no"), 2) == SFS_OK);
+    CHECK(sfs_delete(image, 65536, B("session/verified"), 3) == SFS_OK);
+    CHECK(sfs_restore(image, 65536, B("session/verified"), 4) == SFS_OK);
+    CHECK(content_is(sfs_read(image, 65536, B("session/verified"), out, 4), (struct sfs_content){.length = 3}));
+    CHECK(memcmp(out, "yes", 4) == 0);
+    CHECK(sfs_delete(image, 65536, B("session/verified"), 5) == SFS_OK);
+    CHECK(refused_restore(image, B("session/verified")) == SFS_NOT_FOUND);
+    CHECK(sfs_delete(image, 65536, B("session"), 6) == SFS_OK);
+    CHECK(refused_restore(image, B("session")) == SFS_NOT_FOUND);
+    free(image);
+}
+
+/* A volume with a file of 64,000 bytes, big, and as many empty ones as have a place: the sixth, whose path is given, has none. */
+static uint8_t *full(uint32_t edition, char path[7]) {
     uint8_t *image = new_image(65536), *bytes = new_image(64001);
-    char path[] = "empty0";
-    CHECK(sfs_format(image, 65536, SFS_VERSION_1_0, 512, 2, NULL, 0, 0) == SFS_OK);
+    strcpy(path, "empty0");
+    CHECK(sfs_format(image, 65536, edition, 512, 2, NULL, 0, 0) == SFS_OK);
     CHECK(sfs_create_file(image, 65536, B("big"), bytes, 64001, 0) == SFS_NO_BLOCKS);
     CHECK(sfs_create_file(image, 65536, B("big"), bytes, SIZE_MAX, 0) == SFS_NO_BLOCKS); /* rounded up without a sum */
     CHECK(sfs_create_file(image, 65536, B("big"), bytes, 64000, 0) == SFS_OK);
-    for (int i = 0; i < 5; i++) {
-        path[5] = (char)('0' + i);
+    for (; path[5] < '5'; path[5]++)
         CHECK(sfs_create_file(image, 65536, (const uint8_t *)path, 6, NULL, 0, 0) == SFS_OK);
-    }
-    path[5] = '5';
     CHECK(sfs_create_file(image, 65536, (const uint8_t *)path, 6, NULL, 0, 0) == SFS_NO_SLOTS);
-    CHECK(sfs_delete(image, 65536, B("big"), 0) == SFS_OK);
+    free(bytes);
+    return image;
+}
+
+/* After a keeping delete of the big file the sixth is 15 still, until a reclaim. */
+static void full_volume_kept(void) {
+    char path[7];
+    uint8_t *image = full(SFS_VERSION_1_0, path);
+    CHECK(sfs_delete_keep(image, 65536, B("big"), 0) == SFS_OK);
+    CHECK(sfs_create_file(image, 65536, (const uint8_t *)path, 6, NULL, 0, 0) == SFS_NO_SLOTS);
+    CHECK(sfs_reclaim(image, 65536, 0) == SFS_OK);
+    CHECK(sfs_create_file(image, 65536, (const uint8_t *)path, 6, NULL, 0, 0) == SFS_OK);
+    free(image);
+}
+
+/* In 1.10 it has the big file's slot and blocks at once, and only the data area's end waits for a reclaim. */
+static void newer_full_volume_kept(void) {
+    char path[7];
+    uint8_t *image = full(SFS_VERSION_1_10, path), *bytes = new_image(63488);
+    CHECK(sfs_delete_keep(image, 65536, B("big"), 0) == SFS_OK);
+    CHECK(sfs_create_file(image, 65536, (const uint8_t *)path, 6, bytes, 63488, 0) == SFS_OK);
+    path[5]++;
     CHECK(sfs_create_file(image, 65536, (const uint8_t *)path, 6, NULL, 0, 0) == SFS_NO_SLOTS);
     CHECK(sfs_reclaim(image, 65536, 0) == SFS_OK);
     CHECK(sfs_create_file(image, 65536, (const uint8_t *)path, 6, NULL, 0, 0) == SFS_OK);
@@ -455,14 +509,15 @@ static void full_volume(void) {
     free(bytes);
 }
 
-/* The text of an image is the wanted one. */
-static int text_is(const uint8_t *image, size_t n, const char *wanted) {
-    uint8_t *out = new_image(SFS_LISTING_ROOM);
-    size_t length = strlen(wanted);
-    struct sfs_content text = sfs_listing(image, n, out, SFS_LISTING_ROOM);
-    int same = content_is(text, (struct sfs_content){.length = length}) && memcmp(out, wanted, length) == 0 && out[length] == 0;
-    free(out);
-    return same;
+/* After a delete that wipes, the sixth is accepted at once in both, and a seventh, for which the index grows. */
+static void full_volume_wiped(uint32_t edition) {
+    char path[7];
+    uint8_t *image = full(edition, path);
+    CHECK(sfs_delete(image, 65536, B("big"), 0) == SFS_OK);
+    CHECK(sfs_create_file(image, 65536, (const uint8_t *)path, 6, NULL, 0, 0) == SFS_OK);
+    path[5]++;
+    CHECK(sfs_create_file(image, 65536, (const uint8_t *)path, 6, NULL, 0, 0) == SFS_OK);
+    free(image);
 }
 
 static void listing(void) {
@@ -479,8 +534,11 @@ static void listing(void) {
                   "F 3 1969-12-31T23:59:59Z session/verified\n"
                   "D 0 1970-01-01T00:01:00Z session\n"
                   "live 2 held 1\n"));
-    CHECK(sfs_delete(image, 65536, B("session/verified"), 0) == SFS_OK);
+    CHECK(sfs_delete_keep(image, 65536, B("session/verified"), 0) == SFS_OK);
     CHECK(text_is(image, 65536, "TERM7\nD 0 1970-01-01T00:01:00Z session\nlive 1 held 1\n"));
+    CHECK(sfs_restore(image, 65536, B("session/verified"), 0) == SFS_OK);
+    CHECK(sfs_delete(image, 65536, B("session/verified"), 0) == SFS_OK);
+    CHECK(text_is(image, 65536, "TERM7\nD 0 1970-01-01T00:01:00Z session\nlive 1 held 0\n"));
     CHECK(zero_content(sfs_listing(image, 65536, out, sizeof out), SFS_OUTPUT_TOO_SHORT) && out[0] == 0);
     image[0x1BD] ^= 1;
     CHECK(text_is(image, 65536, "refused 4\n"));
@@ -625,7 +683,7 @@ static void names_over_slots(void) {
     image[second] = 0;
     CHECK(zero_volume(sfs_open(image, 65536, NULL, 0), SFS_INDEX));
     image[second] = 0xA9;
-    CHECK(sfs_delete(image, 65536, B("prêts de la branche au marché"), 0) == SFS_OK);
+    CHECK(sfs_delete_keep(image, 65536, B("prêts de la branche au marché"), 0) == SFS_OK);
     CHECK(sfs_open(image, 65536, NULL, 0).refusal == SFS_OK);
     image[second] = 0; /* deleted names are judged too */
     CHECK(zero_volume(sfs_open(image, 65536, NULL, 0), SFS_INDEX));
@@ -707,6 +765,9 @@ static void later_version(void) {
     CHECK(sfs_create_file(image, 65536, B("new"), NULL, 0, LATER) == SFS_READ_ONLY);
     CHECK(sfs_create_directory(image, 65536, B("d"), LATER) == SFS_READ_ONLY);
     CHECK(sfs_delete(image, 65536, B("d/first"), LATER) == SFS_READ_ONLY);
+    CHECK(sfs_delete(image, 65536, NULL, 0, LATER) == SFS_READ_ONLY);
+    CHECK(sfs_delete_keep(image, 65536, B("d/first"), LATER) == SFS_READ_ONLY);
+    CHECK(sfs_delete_keep(image, 65536, NULL, 0, LATER) == SFS_READ_ONLY);
     CHECK(sfs_restore(image, 65536, B("d/first"), LATER) == SFS_READ_ONLY);
     CHECK(sfs_reclaim(image, 65536, LATER) == SFS_READ_ONLY);
     CHECK(memcmp(image, before, 65536) == 0);
@@ -714,18 +775,18 @@ static void later_version(void) {
     free(before);
 }
 
-/* A delete makes the run unused slots and changes nothing else: the same create then gives the image from before. */
+/* A keeping delete makes the run unused slots and changes nothing else: the same create then gives the image from before. */
 static void newer_deletes(void) {
     uint8_t *image = stamped(SFS_VERSION_1_10), *before = stamped(SFS_VERSION_1_10), *slot = before + 65536 - 320 + 64, out[6];
     uint8_t *whole = stamped(SFS_VERSION_1_10), bytes[1000];
     memset(bytes, 0xA5, sizeof bytes);
-    CHECK(sfs_delete(image, 65536, B("d"), DELETED) == SFS_NOT_EMPTY);
-    CHECK(sfs_delete(image, 65536, B("d/the-second"), DELETED) == SFS_OK);
+    CHECK(sfs_delete_keep(image, 65536, B("d"), DELETED) == SFS_NOT_EMPTY);
+    CHECK(sfs_delete_keep(image, 65536, B("d/the-second"), DELETED) == SFS_OK);
     memcpy(slot, unused, 64);
     CHECK(memcmp(image, before, 65536) == 0);
     CHECK(volume_is(sfs_open(image, 65536, out, 6), stamped_volume(SFS_VERSION_1_10)));
     CHECK(zero_entry(sfs_find(image, 65536, B("d/the-second")), SFS_NOT_FOUND));
-    CHECK(sfs_delete(image, 65536, B("d/the-second"), DELETED) == SFS_NOT_FOUND);
+    CHECK(sfs_delete_keep(image, 65536, B("d/the-second"), DELETED) == SFS_NOT_FOUND);
     CHECK(refused_restore(image, B("d/the-second")) == SFS_NOT_FOUND);
     CHECK(refused_restore(image, B("d/first")) == SFS_NOT_FOUND); /* live */
     CHECK(refused_restore(image, B("e/first")) == SFS_NOT_FOUND);
@@ -743,7 +804,7 @@ static void newer_reclaims(void) {
     struct sfs_volume trimmed = stamped_volume(SFS_VERSION_1_10);
     CHECK(sfs_reclaim(image, 65536, LATER) == SFS_OK);
     CHECK(volume_is(sfs_open(image, 65536, out, 6), trimmed));
-    CHECK(sfs_delete(image, 65536, B("d/the-second"), DELETED) == SFS_OK);
+    CHECK(sfs_delete_keep(image, 65536, B("d/the-second"), DELETED) == SFS_OK);
     CHECK(sfs_reclaim(image, 65536, RECLAIMED) == SFS_OK);
     trimmed.data_blocks = 5;
     trimmed.stamp = RECLAIMED;
@@ -754,26 +815,6 @@ static void newer_reclaims(void) {
     CHECK(volume_is(sfs_open(image, 65536, out, 6), trimmed));
     CHECK(entry_is(sfs_find(image, 65536, B("d/e")), (struct sfs_entry){.kind = SFS_DIRECTORY, .slot = 1, .stamp = LATER}));
     free(image);
-}
-
-/* The full volume again: what a delete frees is there at once, and only the data area's end waits for a reclaim. */
-static void newer_full_volume(void) {
-    uint8_t *image = new_image(65536), *bytes = new_image(64001);
-    char path[] = "empty0";
-    CHECK(sfs_format(image, 65536, SFS_VERSION_1_10, 512, 2, NULL, 0, 0) == SFS_OK);
-    CHECK(sfs_create_file(image, 65536, B("big"), bytes, 64001, 0) == SFS_NO_BLOCKS);
-    CHECK(sfs_create_file(image, 65536, B("big"), bytes, 64000, 0) == SFS_OK);
-    for (; path[5] < '5'; path[5]++)
-        CHECK(sfs_create_file(image, 65536, (const uint8_t *)path, 6, NULL, 0, 0) == SFS_OK);
-    CHECK(sfs_create_file(image, 65536, (const uint8_t *)path, 6, NULL, 0, 0) == SFS_NO_SLOTS);
-    CHECK(sfs_delete(image, 65536, B("big"), 0) == SFS_OK);
-    CHECK(sfs_create_file(image, 65536, (const uint8_t *)path, 6, bytes, 63488, 0) == SFS_OK); /* its slot and its blocks */
-    path[5]++;
-    CHECK(sfs_create_file(image, 65536, (const uint8_t *)path, 6, NULL, 0, 0) == SFS_NO_SLOTS);
-    CHECK(sfs_reclaim(image, 65536, 0) == SFS_OK);
-    CHECK(sfs_create_file(image, 65536, (const uint8_t *)path, 6, NULL, 0, 0) == SFS_OK);
-    free(image);
-    free(bytes);
 }
 
 static void newer_listing(void) {
@@ -794,16 +835,17 @@ static void newer_listing(void) {
 /* Stray slots count as unused ones. A refused call leaves them, an accepted one makes them so, whatever else it does. */
 static void stray_slots(void) {
     uint8_t *image = stamped(SFS_VERSION_1_10), *before = new_image(65536), *slots = image + 65536 - 320, out[6];
-    CHECK(sfs_delete(image, 65536, B("d/the-second"), DELETED) == SFS_OK);
+    CHECK(sfs_delete_keep(image, 65536, B("d/the-second"), DELETED) == SFS_OK);
     memset(slots + 64, 'x', 64);
     memcpy(before, image, 65536);
     CHECK(volume_is(sfs_open(image, 65536, out, 6), stamped_volume(SFS_VERSION_1_10)));
     CHECK(sfs_find(image, 65536, B("d/first")).slot == 2);
     CHECK(sfs_create_directory(image, 65536, B("d"), LATER) == SFS_EXISTS);
     CHECK(sfs_delete(image, 65536, B("d"), LATER) == SFS_NOT_EMPTY);
+    CHECK(sfs_delete_keep(image, 65536, B("d"), LATER) == SFS_NOT_EMPTY);
     CHECK(sfs_restore(image, 65536, B("d/the-second"), LATER) == SFS_NOT_FOUND);
     CHECK(memcmp(image, before, 65536) == 0);
-    CHECK(sfs_delete(image, 65536, B("d/first"), DELETED) == SFS_OK);
+    CHECK(sfs_delete_keep(image, 65536, B("d/first"), DELETED) == SFS_OK);
     memcpy(before + 65536 - 320 + 64, unused, 64);
     memcpy(before + 65536 - 320 + 128, unused, 64);
     CHECK(memcmp(image, before, 65536) == 0);
@@ -816,6 +858,10 @@ static void stray_slots(void) {
     memcpy(before, image, 65536);
     memcpy(before + 65536 - 320 + 128, unused, 64);
     CHECK(sfs_reclaim(image, 65536, LATER) == SFS_OK); /* there is nothing to trim */
+    CHECK(memcmp(image, before, 65536) == 0);
+    slots[128] = 'x';
+    memcpy(before + 65536 - 320 + 64, unused, 64);
+    CHECK(sfs_delete(image, 65536, B("d/e"), LATER) == SFS_OK);
     CHECK(memcmp(image, before, 65536) == 0);
     free(image);
     image = stamped(SFS_VERSION_1_0);
@@ -879,7 +925,7 @@ static void wrong_sums(void) {
 static void unusable_blocks(void) {
     static const uint8_t unusable[64] = {0x18, 0xD7, [10] = 8, [18] = 9};
     uint8_t *image = stamped(SFS_VERSION_1_10), *slot = image + 65536 - 320 + 64, out[6];
-    CHECK(sfs_delete(image, 65536, B("d/the-second"), DELETED) == SFS_OK);
+    CHECK(sfs_delete_keep(image, 65536, B("d/the-second"), DELETED) == SFS_OK);
     memcpy(slot, unusable, 64);
     CHECK(volume_is(sfs_open(image, 65536, out, 6), stamped_volume(SFS_VERSION_1_10)));
     slot[1]++;
@@ -936,6 +982,223 @@ static void newer_name_lengths(void) {
     free(image);
 }
 
+/* ---- deletes that wipe */
+
+static size_t super_block(uint32_t edition) {
+    return edition == SFS_VERSION_1_0 ? 0x194 : 0x18E;
+}
+
+static uint8_t *slot_at(uint8_t *image, uint32_t edition, size_t slot) {
+    return image + 65536 - number_at(image + super_block(edition), 16) + 64 * slot;
+}
+
+static void put_number(uint8_t *place, uint64_t n) {
+    for (int i = 0; i < 8; i++)
+        place[i] = (uint8_t)(n >> 8 * i);
+}
+
+/* What a wipe makes of slots. */
+static void make_unused(uint8_t *image, uint32_t edition, size_t slot, size_t count) {
+    static const uint8_t older[64] = {0x10};
+    for (size_t i = 0; i < count; i++)
+        memcpy(slot_at(image, edition, slot + i), edition == SFS_VERSION_1_0 ? older : unused, 64);
+}
+
+/* Another data area, and the stamp that belongs to it. */
+static void resize(uint8_t *image, uint32_t edition, uint64_t blocks, int64_t stamp) {
+    put_number(image + super_block(edition), (uint64_t)stamp);
+    put_number(image + super_block(edition) + 8, blocks);
+}
+
+/* Another length of a file in one slot: what is behind it stays in the region, as other programs may leave it. */
+static void shorten(uint8_t *image, uint32_t edition, size_t slot, uint64_t length) {
+    uint8_t *entry = slot_at(image, edition, slot), before = sum_of(entry, 64);
+    put_number(entry + (edition == SFS_VERSION_1_0 ? 26 : 27), length);
+    if (edition == SFS_VERSION_1_10)
+        add(entry + 1, before - sum_of(entry, 64));
+}
+
+static uint8_t *copy_of(const uint8_t *image) {
+    return memcpy(new_image(65536), image, 65536);
+}
+
+/* The last region, blocks 8 and 9, is trimmed, and the volume has the call's stamp. */
+static void wipes_last(uint32_t edition) {
+    uint8_t *image = stamped(edition), *wanted = copy_of(image), out[6];
+    struct sfs_volume trimmed = stamped_volume(edition);
+    trimmed.data_blocks = 5;
+    trimmed.stamp = DELETED;
+    image[10 * 512 - 1] = 0x77; /* behind the file's bytes */
+    memset(wanted + 8 * 512, 0, 2 * 512);
+    make_unused(wanted, edition, 1, 1);
+    resize(wanted, edition, 5, DELETED);
+    CHECK(sfs_delete(image, 65536, B("d/the-second"), DELETED) == SFS_OK);
+    CHECK(memcmp(image, wanted, 65536) == 0);
+    CHECK(volume_is(sfs_open(image, 65536, out, 6), trimmed));
+    CHECK(zero_entry(sfs_find(image, 65536, B("d/the-second")), SFS_NOT_FOUND));
+    CHECK(sfs_delete(image, 65536, B("d/the-second"), LATER) == SFS_NOT_FOUND);
+    CHECK(refused_restore(image, B("d/the-second")) == SFS_NOT_FOUND);
+    free(image);
+    free(wanted);
+}
+
+/* All of the region, blocks 3 to 7, however long the file is. With another region behind it the size and its stamp stay. */
+static void wipes_first(uint32_t edition, uint64_t length) {
+    uint8_t *image = stamped(edition), *wanted = copy_of(image);
+    shorten(image, edition, 2, length);
+    CHECK(sfs_find(image, 65536, B("d/first")).length == length);
+    memset(wanted + 3 * 512, 0, 5 * 512);
+    make_unused(wanted, edition, 2, 1);
+    CHECK(sfs_delete(image, 65536, B("d/first"), DELETED) == SFS_OK);
+    CHECK(memcmp(image, wanted, 65536) == 0);
+    free(image);
+    free(wanted);
+}
+
+/* A directory and an empty file have no block; but a data area that is too long, as other programs may leave it, is trimmed. */
+static void wipes_without_blocks(uint32_t edition) {
+    uint8_t *image = stamped(edition), *wanted;
+    CHECK(sfs_create_directory(image, 65536, B("d/e"), LATER) == SFS_OK);
+    wanted = copy_of(image);
+    make_unused(wanted, edition, 1, 1);
+    CHECK(sfs_delete(image, 65536, B("d/e"), DELETED) == SFS_OK);
+    CHECK(memcmp(image, wanted, 65536) == 0);
+    CHECK(sfs_create_file(image, 65536, B("d/none"), NULL, 0, LATER) == SFS_OK);
+    resize(image, edition, 9, LATER);
+    resize(wanted, edition, 7, DELETED);
+    CHECK(sfs_delete(image, 65536, B("d/none"), DELETED) == SFS_OK);
+    CHECK(memcmp(image, wanted, 65536) == 0);
+    free(image);
+    free(wanted);
+}
+
+/* Names of 100 bytes: a file's run of three slots, and a directory's of two, have nothing of them left. */
+static void wipes_runs(uint32_t edition) {
+    uint8_t *image = new_image(65536), *wanted, path[100];
+    memset(path, 'd', sizeof path);
+    CHECK(sfs_format(image, 65536, edition, 512, 2, NULL, 0, 0) == SFS_OK);
+    CHECK(sfs_create_directory(image, 65536, path, 100, 0) == SFS_OK);
+    path[0] = 'f';
+    CHECK(sfs_create_file(image, 65536, path, 100, B("yes"), 0) == SFS_OK);
+    wanted = copy_of(image);
+    memset(wanted + 2 * 512, 0, 512);
+    make_unused(wanted, edition, 1, 3);
+    resize(wanted, edition, 0, DELETED);
+    CHECK(sfs_delete(image, 65536, path, 100, DELETED) == SFS_OK);
+    CHECK(memcmp(image, wanted, 65536) == 0);
+    path[0] = 'd';
+    make_unused(wanted, edition, 4, 2);
+    CHECK(sfs_delete(image, 65536, path, 100, LATER) == SFS_OK);
+    CHECK(memcmp(image, wanted, 65536) == 0);
+    free(image);
+    free(wanted);
+}
+
+/* Bytes around the region stay, in blocks of any length. */
+static void wipes_blocks(uint32_t edition, size_t block_length) {
+    uint8_t *image = new_image(65536), *wanted, bytes[2 * 4096 + 1];
+    uint64_t reserved = (511 + block_length) / block_length;
+    memset(image, 0x5A, 65536);
+    memset(bytes, 0xA5, sizeof bytes);
+    CHECK(sfs_format(image, 65536, edition, block_length, reserved, NULL, 0, 0) == SFS_OK);
+    CHECK(sfs_create_file(image, 65536, B("f"), bytes, 2 * block_length + 1, MADE) == SFS_OK);
+    wanted = copy_of(image);
+    memset(wanted + reserved * block_length, 0, 3 * block_length);
+    make_unused(wanted, edition, 1, 1);
+    resize(wanted, edition, 0, DELETED);
+    CHECK(sfs_delete(image, 65536, B("f"), DELETED) == SFS_OK);
+    CHECK(memcmp(image, wanted, 65536) == 0);
+    free(image);
+    free(wanted);
+}
+
+/* In 1.0 a kept deleted file holds the data area's end, and its bytes; in 1.10 it holds nothing. */
+static void wipes_beside_kept(uint32_t edition) {
+    uint8_t *image = stamped(edition), *wanted;
+    CHECK(sfs_delete_keep(image, 65536, B("d/the-second"), LATER) == SFS_OK);
+    wanted = copy_of(image);
+    memset(wanted + 3 * 512, 0, 5 * 512);
+    make_unused(wanted, edition, 2, 1);
+    if (edition == SFS_VERSION_1_10)
+        resize(wanted, edition, 0, DELETED);
+    CHECK(sfs_delete(image, 65536, B("d/first"), DELETED) == SFS_OK);
+    CHECK(memcmp(image, wanted, 65536) == 0);
+    CHECK(sfs_restore(image, 65536, B("d/the-second"), SECOND) == (edition == SFS_VERSION_1_0 ? SFS_OK : SFS_NOT_FOUND));
+    free(image);
+    free(wanted);
+}
+
+/* So does an unusable entry, in both: here in the place of d/the-second, for block 9 alone. */
+static void wipes_beside_unusable(uint32_t edition) {
+    static const uint8_t older[64] = {0x18, [10] = 9, [18] = 10}, newer[64] = {0x18, 0xD6, [10] = 9, [18] = 9};
+    uint8_t *image = stamped(edition), *wanted;
+    memcpy(slot_at(image, edition, 1), edition == SFS_VERSION_1_0 ? older : newer, 64);
+    wanted = copy_of(image);
+    memset(wanted + 3 * 512, 0, 5 * 512);
+    make_unused(wanted, edition, 2, 1);
+    CHECK(sfs_delete(image, 65536, B("d/first"), DELETED) == SFS_OK);
+    CHECK(memcmp(image, wanted, 65536) == 0);
+    free(image);
+    free(wanted);
+}
+
+/* Both calls give the refusal, and change no byte. */
+static void refused_deletes(uint8_t *image, size_t n, const uint8_t *path, size_t path_len, uint32_t refusal) {
+    uint8_t *before = copy_of(image);
+    CHECK(sfs_delete(image, n, path, path_len, LATER) == refusal);
+    CHECK(sfs_delete_keep(image, n, path, path_len, LATER) == refusal);
+    CHECK(memcmp(image, before, 65536) == 0);
+    free(before);
+}
+
+/* 9 is in later_version. */
+static void deletes_refused(uint32_t edition) {
+    uint8_t *image = stamped(edition);
+    size_t magic = super_block(edition) + 24;
+    refused_deletes(image, 65536, B("d"), SFS_NOT_EMPTY);
+    refused_deletes(image, 65536, B("d/third"), SFS_NOT_FOUND);
+    refused_deletes(image, 65536, B("d/first/x"), SFS_NOT_FOUND);
+    refused_deletes(image, 65536, B("d//first"), SFS_NAME);
+    refused_deletes(image, 65536, NULL, 0, SFS_NAME);
+    refused_deletes(image, 511, B("d/first"), SFS_IMAGE_LENGTH);
+    refused_deletes(image, 65024, B("d/first"), SFS_GEOMETRY);
+    image[magic + 17] ^= 1;
+    refused_deletes(image, 65536, B("d/first"), SFS_CHECKSUM);
+    image[magic + 3] = 0x0F;
+    refused_deletes(image, 65536, B("d/first"), SFS_VERSION);
+    image[magic] ^= 1;
+    refused_deletes(image, 65536, B("d/first"), SFS_MAGIC);
+    free(image);
+}
+
+/* The index of TERM7 at fault: in the identifier, in a region, in a path. */
+static void deletes_refused_by_index(void) {
+    static const struct { uint32_t refusal; size_t place; uint8_t byte; } faults[] = {
+        {SFS_INDEX, 65536 - 64, 3}, {SFS_REGIONS, 65536 - 192 + 10, 1}, {SFS_PATHS, 65536 - 128 + 10, 'S'},
+    };
+    for (size_t i = 0; i < sizeof faults / sizeof faults[0]; i++) {
+        uint8_t *image = session();
+        image[faults[i].place] = faults[i].byte;
+        refused_deletes(image, 65536, B("session/verified"), faults[i].refusal);
+        free(image);
+    }
+}
+
+static void wipes(uint32_t edition) {
+    wipes_last(edition);
+    wipes_first(edition, 2100);
+    wipes_first(edition, 100);
+    wipes_first(edition, 0);
+    wipes_without_blocks(edition);
+    wipes_runs(edition);
+    for (size_t block_length = 256; block_length <= 4096; block_length *= 2)
+        wipes_blocks(edition, block_length);
+    wipes_beside_kept(edition);
+    wipes_beside_unusable(edition);
+    full_volume_wiped(edition);
+    deletes_refused(edition);
+}
+
 /* A report of zeros in memory of exactly its size. */
 static uint64_t *new_report(size_t numbers) {
     uint64_t *report = calloc(numbers, sizeof *report);
@@ -963,9 +1226,9 @@ static void report_sums(void) {
     slot[26] = 0; /* a region without a byte holds its block */
     CHECK(sums_are(image, 65536, (uint64_t[27]){1, 1, 0, 0, 0, 0, 1, 0, 0}));
     slot[26] = 3;
-    CHECK(sfs_delete(image, 65536, B("session/verified"), 1) == SFS_OK);
+    CHECK(sfs_delete_keep(image, 65536, B("session/verified"), 1) == SFS_OK);
     CHECK(sums_are(image, 65536, (uint64_t[27]){0, 0, 0, 1, 1, 3, 1, 0, 0}));
-    CHECK(sfs_delete(image, 65536, B("session"), 1) == SFS_OK);
+    CHECK(sfs_delete_keep(image, 65536, B("session"), 1) == SFS_OK);
     CHECK(sums_are(image, 65536, (uint64_t[27]){0, 0, 0, 1, 1, 3, 0, 0, 0, 1, 0, 0}));
     CHECK(sfs_reclaim(image, 65536, 1) == SFS_OK);
     CHECK(sums_are(image, 65536, (uint64_t[27]){[15] = 2}));
@@ -979,7 +1242,7 @@ static void report_editions(void) {
     static const uint8_t older[64] = {0x18, [10] = 8, [18] = 10}, newer[64] = {0x18, 0xD7, [10] = 8, [18] = 9};
     uint8_t *image = stamped(SFS_VERSION_1_0), *slot = image + 65536 - 320 + 64;
     CHECK(sums_are(image, 65536, (uint64_t[27]){2, 7, 3100, 0, 0, 0, 1, 0, 0}));
-    CHECK(sfs_delete(image, 65536, B("d/the-second"), DELETED) == SFS_OK);
+    CHECK(sfs_delete_keep(image, 65536, B("d/the-second"), DELETED) == SFS_OK);
     CHECK(sums_are(image, 65536, (uint64_t[27]){1, 5, 2100, 1, 2, 1000, 1, 0, 0}));
     memcpy(slot, older, 64);
     CHECK(sums_are(image, 65536, (uint64_t[27]){1, 5, 2100, 0, 0, 0, 1, 0, 0, 0, 0, 0, 1, 2, 0}));
@@ -990,7 +1253,7 @@ static void report_editions(void) {
     image = stamped(SFS_VERSION_1_10);
     slot = image + 65536 - 320 + 64;
     CHECK(sums_are(image, 65536, (uint64_t[27]){2, 7, 3100, 0, 0, 0, 1, 0, 0}));
-    CHECK(sfs_delete(image, 65536, B("d/the-second"), DELETED) == SFS_OK);
+    CHECK(sfs_delete_keep(image, 65536, B("d/the-second"), DELETED) == SFS_OK);
     CHECK(sums_are(image, 65536, (uint64_t[27]){1, 5, 2100, 0, 0, 0, 1, 0, 0, [15] = 1}));
     memset(slot, 'x', 64); /* a stray slot is left over */
     CHECK(sums_are(image, 65536, (uint64_t[27]){1, 5, 2100, 0, 0, 0, 1, 0, 0, [15] = 1}));
@@ -1186,11 +1449,13 @@ int main(void) {
     stamps_of_writes();
     creates_refused();
     reads();
-    deletes();
+    deletes(sfs_delete, 0);
+    deletes(sfs_delete_keep, 1);
     restores();
     restores_directories();
     restores_refused();
-    full_volume();
+    restores_kept_alone();
+    full_volume_kept();
     listing();
     CHECK(sfs_api() == SFS_API);
     list_all(SFS_VERSION_1_0);
@@ -1205,7 +1470,7 @@ int main(void) {
     later_version();
     newer_deletes();
     newer_reclaims();
-    newer_full_volume();
+    newer_full_volume_kept();
     newer_listing();
     stray_slots();
     deleted_runs();
@@ -1213,6 +1478,9 @@ int main(void) {
     unusable_blocks();
     before_directories();
     newer_name_lengths();
+    wipes(SFS_VERSION_1_0);
+    wipes(SFS_VERSION_1_10);
+    deletes_refused_by_index();
     reports();
     printf("%d passed, %d failed\n", passed, failed);
     return failed != 0;

@@ -84,6 +84,7 @@ extern "C" {
     ) -> u32;
     fn sfs_create_directory(image: *mut u8, image_len: usize, path: *const u8, path_len: usize, stamp: i64) -> u32;
     fn sfs_delete(image: *mut u8, image_len: usize, path: *const u8, path_len: usize, stamp: i64) -> u32;
+    fn sfs_delete_keep(image: *mut u8, image_len: usize, path: *const u8, path_len: usize, stamp: i64) -> u32;
     fn sfs_restore(image: *mut u8, image_len: usize, path: *const u8, path_len: usize, stamp: i64) -> u32;
     fn sfs_reclaim(image: *mut u8, image_len: usize, stamp: i64) -> u32;
     fn sfs_listing(image: *const u8, image_len: usize, out: *mut u8, out_len: usize) -> Content;
@@ -177,6 +178,10 @@ impl Store for Library {
 
     fn delete(&self, image: &mut [u8], path: &[u8], stamp: i64) -> Written {
         written(unsafe { sfs_delete(image.as_mut_ptr(), image.len(), path.as_ptr(), path.len(), stamp) })
+    }
+
+    fn delete_keep(&self, image: &mut [u8], path: &[u8], stamp: i64) -> Written {
+        written(unsafe { sfs_delete_keep(image.as_mut_ptr(), image.len(), path.as_ptr(), path.len(), stamp) })
     }
 
     fn restore(&self, image: &mut [u8], path: &[u8], stamp: i64) -> Written {

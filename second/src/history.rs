@@ -13,11 +13,28 @@ const LIVE_FILE: u8 = 0x12;
 /// One call, as far as the history cares for it.
 #[derive(Clone, Copy, Debug)]
 pub enum Told<'a> {
-    Format { version: u64, block: u64 },
-    File { path: &'a [u8], bytes: &'a [u8] },
-    Directory { path: &'a [u8] },
-    Delete { path: &'a [u8] },
-    Restore { path: &'a [u8] },
+    Format {
+        version: u64,
+        block: u64,
+    },
+    File {
+        path: &'a [u8],
+        bytes: &'a [u8],
+    },
+    Directory {
+        path: &'a [u8],
+    },
+    /// The plain delete, which keeps nothing.
+    Delete {
+        path: &'a [u8],
+    },
+    /// The delete that keeps where the edition does.
+    DeleteKeep {
+        path: &'a [u8],
+    },
+    Restore {
+        path: &'a [u8],
+    },
     Reclaim,
 }
 
@@ -58,22 +75,18 @@ impl History {
                 self.add(path, LIVE_FILE, bytes, blocks);
             }
             Told::Directory { path } => self.add(path, LIVE_DIRECTORY, &[], 0),
-            Told::Delete { path } => {
-                self.turn(path, false);
-                if !self.edition.keeps_deleted() {
-                    self.strike();
-                }
-            }
+            Told::DeleteKeep { path } if self.edition.keeps_deleted() => self.turn(path, false),
+            // Other entries of the path that were kept before stay as they are.
+            Told::Delete { path } | Told::DeleteKeep { path } => self.strike(|kept| kept.live && kept.path == path),
             Told::Restore { path } => self.turn(path, true),
-            Told::Reclaim => self.strike(),
+            Told::Reclaim => self.strike(|kept| !kept.live),
         }
     }
 
-    /// Strikes the deleted entries and gives their blocks back.
-    fn strike(&mut self) {
-        let deleted = self.entries.iter().filter(|kept| !kept.live);
-        self.given_back += deleted.map(|kept| kept.blocks).sum::<u64>();
-        self.entries.retain(|kept| kept.live);
+    /// Strikes such entries and gives their blocks back.
+    fn strike(&mut self, gone: impl Fn(&Kept) -> bool) {
+        self.given_back += self.entries.iter().filter(|kept| gone(kept)).map(|kept| kept.blocks).sum::<u64>();
+        self.entries.retain(|kept| !gone(kept));
     }
 
     /// Turns the path's live entry deleted, or its deleted one live. Its blocks stay granted either way, and an

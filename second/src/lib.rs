@@ -32,7 +32,7 @@ pub mod xorshift;
 pub use answer::{Found, Listed, Opened, Read, Records, Tabled, Written};
 pub use create::{create, create_directory, create_file, Content};
 pub use edition::Edition;
-pub use erase::{delete, reclaim, restore};
+pub use erase::{delete, delete_keep, reclaim, restore};
 pub use format::format;
 pub use listing::{listing, listing_text};
 pub use query::{find, list, list_all, open, read};

@@ -9,7 +9,8 @@ use std::path::Path;
 use std::process::ExitCode;
 
 const USAGE: &str = "usage: second run < SCRIPT
-       second gen SEED COUNT [history|damage|built|edges|args|names|restore|tails|crowded|sums|editions|report|regions]
+       second gen SEED COUNT [history|damage|built|edges|args|names|restore|tails|crowded|sums|editions|report|regions|
+                              wiping]
        second selftest SEED SCRIPTS
        second listing < IMAGE
        second report < NAMES

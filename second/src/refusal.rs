@@ -31,6 +31,9 @@ pub const HIGHEST: Refusal = SEVERAL_DELETED;
 /// The numbers restore can answer.
 pub const OF_RESTORE: [Refusal; 15] = [0, 1, 2, 3, 4, 5, 6, 7, 8, 9, 10, 11, 12, 13, 19];
 
+/// The numbers that the two deletes can answer.
+pub const OF_DELETE: [Refusal; 13] = [0, 1, 2, 3, 4, 5, 6, 7, 8, 9, 10, 11, 14];
+
 /// The numbers that calls on a volume of edition 1.10 can answer once its length is right, formats left out.
 pub const OF_1_10: [Refusal; 16] = [0, 3, 4, 5, 6, 7, 8, 10, 11, 12, 13, 14, 15, 16, 17, 18];
 

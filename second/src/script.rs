@@ -218,7 +218,9 @@ impl<S: Store> Session<S> {
         match word {
             "image" | "imagefill" | "imagehex" | "poke" | "truncate" => self.reshape(word, words).map(|()| None),
             "open" | "find" | "list" | "listall" | "read" => self.ask(word, words).map(Some),
-            "format" | "mkfile" | "mkdir" | "delete" | "restore" | "reclaim" => self.write(word, words).map(Some),
+            "format" | "mkfile" | "mkdir" | "delete" | "deletekeep" | "restore" | "reclaim" => {
+                self.write(word, words).map(Some)
+            }
             "listing" => self.listing(words).map(Some),
             "reportnew" | "reportset" => self.set_report(word, words).map(|()| None),
             "reportadd" => self.report_add(words).map(Some),
@@ -281,6 +283,7 @@ impl<S: Store> Session<S> {
             "mkfile" => (store.create_file(image, &path, stamp, &bytes), Told::File { path: &path, bytes: &bytes }),
             "mkdir" => (store.create_directory(image, &path, stamp), Told::Directory { path: &path }),
             "delete" => (store.delete(image, &path, stamp), Told::Delete { path: &path }),
+            "deletekeep" => (store.delete_keep(image, &path, stamp), Told::DeleteKeep { path: &path }),
             "restore" => (store.restore(image, &path, stamp), Told::Restore { path: &path }),
             _ => (store.reclaim(image, stamp), Told::Reclaim),
         };

@@ -2,7 +2,7 @@
 
 use crate::edition::Edition;
 use crate::generator;
-use crate::refusal::{Counts, Refusal, OF_1_10, OF_REGIONS, OF_REPORT, OF_RESTORE};
+use crate::refusal::{Counts, Refusal, OF_1_10, OF_DELETE, OF_REGIONS, OF_REPORT, OF_RESTORE};
 use crate::script::{Called, Session};
 use std::collections::BTreeMap;
 use std::fmt;
@@ -18,6 +18,9 @@ pub struct Tally {
     pub met: Counts,
     /// The same for the restores alone.
     pub restores: Counts,
+    /// The same for the deletes that wipe, and for those that keep.
+    pub deletes: Counts,
+    pub keeping_deletes: Counts,
     /// The same for the calls on images of edition 1.10 alone; formats, listings, reports and tests for shared blocks
     /// left out.
     pub newer: Counts,
@@ -61,6 +64,8 @@ fn run_one(script: String, place: u64, tally: &mut Tally) {
     tally.calls += session.calls;
     add(&mut tally.met, &session.met);
     add(&mut tally.restores, &session.answers("restore"));
+    add(&mut tally.deletes, &session.answers("delete"));
+    add(&mut tally.keeping_deletes, &session.answers("deletekeep"));
     add(&mut tally.newer, &session.answers_in(Edition::V1_10));
     add(&mut tally.reports, &session.answers("reportadd"));
     add(&mut tally.regions, &session.answers("regions"));
@@ -79,6 +84,11 @@ fn add(sums: &mut Counts, more: &Counts) {
 /// A line for each number that restore can answer.
 pub fn restore_table(counts: &Counts) -> String {
     table("restore", &OF_RESTORE, counts)
+}
+
+/// A line for each number that a delete can answer; the word says which of the two it is.
+pub fn delete_table(word: &str, counts: &Counts) -> String {
+    table(word, &OF_DELETE, counts)
 }
 
 /// A line for each number that a call on a volume of edition 1.10 can answer.
@@ -117,6 +127,8 @@ impl fmt::Display for Tally {
             writeln!(text, "refusal {number} met {met}")?;
         }
         text.write_str(&restore_table(&self.restores))?;
+        text.write_str(&delete_table("delete", &self.deletes))?;
+        text.write_str(&delete_table("deletekeep", &self.keeping_deletes))?;
         text.write_str(&newer_table(&self.newer))?;
         text.write_str(&report_table(&self.reports))?;
         text.write_str(&region_table(&self.regions))?;

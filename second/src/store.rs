@@ -3,8 +3,8 @@
 use crate::answer::{Found, Listed, Opened, Read, Records, Tabled, Written};
 use crate::sharing::TableRegion;
 
-/// The number of the interface, raised whenever an answer or an argument changes.
-pub const API: u32 = 1;
+/// The number of the interface, raised whenever a struct, an argument or what a call does changes.
+pub const API: u32 = 2;
 
 pub trait Store {
     fn api(&self) -> u32;
@@ -25,6 +25,7 @@ pub trait Store {
     fn create_file(&self, image: &mut [u8], path: &[u8], stamp: i64, bytes: &[u8]) -> Written;
     fn create_directory(&self, image: &mut [u8], path: &[u8], stamp: i64) -> Written;
     fn delete(&self, image: &mut [u8], path: &[u8], stamp: i64) -> Written;
+    fn delete_keep(&self, image: &mut [u8], path: &[u8], stamp: i64) -> Written;
     fn restore(&self, image: &mut [u8], path: &[u8], stamp: i64) -> Written;
     fn reclaim(&self, image: &mut [u8], stamp: i64) -> Written;
     fn listing(&self, image: &[u8], output: &mut [u8]) -> Read;
@@ -86,6 +87,10 @@ impl Store for Own {
 
     fn delete(&self, image: &mut [u8], path: &[u8], stamp: i64) -> Written {
         crate::delete(image, path, stamp)
+    }
+
+    fn delete_keep(&self, image: &mut [u8], path: &[u8], stamp: i64) -> Written {
+        crate::delete_keep(image, path, stamp)
     }
 
     fn restore(&self, image: &mut [u8], path: &[u8], stamp: i64) -> Written {

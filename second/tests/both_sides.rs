@@ -4,7 +4,7 @@ mod common;
 
 use common::*;
 use second::superblock::CHECKSUM;
-use second::{create_directory, create_file, delete, find, format, listing_text, read, reclaim};
+use second::{create_directory, create_file, delete, delete_keep, find, format, listing_text, read, reclaim};
 
 #[test]
 fn checksum_of_a_floppy() {
@@ -71,7 +71,11 @@ fn the_sixth_empty_file() {
         assert_eq!(mkfile(&mut image, path, b""), 0);
     }
     assert_eq!(mkfile(&mut image, b"6", b""), 15);
-    assert_eq!(delete(&mut image, b"big", 8).refusal, 0);
+    // Accepted at once after a plain delete, and after one that keeps when it is reclaimed.
+    let mut wiped = image.clone();
+    assert_eq!(delete(&mut wiped, b"big", 8).refusal, 0);
+    assert_eq!(mkfile(&mut wiped, b"6", b""), 0);
+    assert_eq!(delete_keep(&mut image, b"big", 8).refusal, 0);
     assert_eq!(mkfile(&mut image, b"6", b""), 15);
     assert_eq!(reclaim(&mut image, 9).refusal, 0);
     assert_eq!(mkfile(&mut image, b"6", b""), 0);
@@ -85,8 +89,10 @@ fn small_cases() {
     assert_eq!(format(&mut [], 0x10, 512, 2, b"", 0).refusal, 1);
     let mut image = fresh(4096, 512, 1);
     mkfile(&mut image, b"f", b"");
-    assert_eq!(delete(&mut image, b"f", 0).refusal, 0);
-    assert_eq!(delete(&mut image, b"f", 0).refusal, 11);
+    for call in [delete, delete_keep] {
+        let mut image = image.clone();
+        assert_eq!([call(&mut image, b"f", 0).refusal, call(&mut image, b"f", 0).refusal], [0, 11]);
+    }
 }
 
 #[test]
@@ -111,6 +117,6 @@ fn listing_of_odd_volumes() {
     assert_eq!(listing_text(&image), b"\nlive 0 held 0\n");
     mkfile(&mut image, b"\xc3\xbf", &[0; 600]);
     mkfile(&mut image, b"g", &[0; 100]);
-    delete(&mut image, b"g", 0);
+    delete_keep(&mut image, b"g", 0);
     assert_eq!(listing_text(&image), b"\nF 600 1970-01-01T00:00:00Z \xc3\xbf\nlive 1 held 3\n");
 }

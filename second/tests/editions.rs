@@ -4,7 +4,9 @@ mod common;
 
 use common::{changed, put};
 use second::history::{History, Told};
-use second::{create_directory, create_file, delete, find, format, list, listing_text, open, read, reclaim, restore};
+use second::{
+    create_directory, create_file, delete, delete_keep, find, format, list, listing_text, open, read, reclaim, restore,
+};
 use second::{Edition, Found, Listed, Opened};
 
 const OLD: u64 = 0x10;
@@ -268,15 +270,15 @@ fn a_file_of_three_bytes_in_a_directory() {
 }
 
 #[test]
-fn delete_empties_the_slots_and_no_more() {
+fn delete_keep_empties_the_slots_and_no_more() {
     let mut image = term7();
-    assert_eq!(delete(&mut image, b"session", 9).refusal, 14);
+    assert_eq!(delete_keep(&mut image, b"session", 9).refusal, 14);
     for path in [b"session/verified".as_slice(), b"session"] {
         let entry = entry_at(&image, path);
         let expected = with(&image, entry, &slot(&UNUSED));
-        assert_eq!(delete(&mut image, path, 9).refusal, 0);
+        assert_eq!(delete_keep(&mut image, path, 9).refusal, 0);
         assert_eq!(changed(&expected, &image), []);
-        assert_eq!(delete(&mut image, path, 9).refusal, 11);
+        assert_eq!(delete_keep(&mut image, path, 9).refusal, 11);
         assert_eq!(restore(&mut image, path, 9).refusal, 11);
         assert_eq!(changed(&expected, &image), []);
     }
@@ -292,7 +294,7 @@ fn delete_empties_the_slots_and_no_more() {
 }
 
 #[test]
-fn blocks_come_back_at_the_delete() {
+fn blocks_come_back_at_a_delete_that_keeps() {
     let mut image = fresh(65_536, 512, 2);
     assert_eq!(mkfile(&mut image, b"big", &[1; 64_001]), 16);
     assert_eq!(mkfile(&mut image, b"big", &[1; 64_000]), 0);
@@ -301,11 +303,11 @@ fn blocks_come_back_at_the_delete() {
         assert_eq!(mkfile(&mut image, path, b""), 0);
     }
     assert_eq!(mkfile(&mut image, b"6", b""), 15);
-    assert_eq!(delete(&mut image, b"big", 8).refusal, 0);
+    assert_eq!(delete_keep(&mut image, b"big", 8).refusal, 0);
     // Its slot is free, and so are its blocks, though the data area still covers them.
     assert_eq!((mkfile(&mut image, b"6", &[2; 64_000]), slot_of(&image, b"6")), (0, 6));
     assert_eq!(mkfile(&mut image, b"7", b""), 15);
-    assert_eq!(delete(&mut image, b"6", 8).refusal, 0);
+    assert_eq!(delete_keep(&mut image, b"6", 8).refusal, 0);
     assert_eq!(mkfile(&mut image, &[b'7'; 29], b""), 15);
     assert_eq!(reclaim(&mut image, 9).refusal, 0);
     assert_eq!(mkfile(&mut image, &[b'7'; 29], b""), 0);
@@ -353,7 +355,7 @@ fn a_run_of_six_slots() {
     let area = at_slot(&image, 0);
     assert_eq!(image[area..area + 64], slot(&[2, 0xFE]));
     assert_eq!(image[area + 64..area + 448], sealed(&run));
-    assert_eq!(delete(&mut image, &path, 1).refusal, 0);
+    assert_eq!(delete_keep(&mut image, &path, 1).refusal, 0);
     assert_eq!(image[area + 64..area + 448], slot(&UNUSED).repeat(6));
     // All six serve again.
     assert_eq!(mkdir(&mut image, &path), 0);
@@ -458,8 +460,10 @@ fn faults_of_the_image_in_order() {
             let mut copy = image.to_vec();
             assert_eq!([find(image, path).refusal, read(image, path, &mut []).refusal], [number; 2]);
             assert_eq!([mkfile(&mut copy, path, b""), mkdir(&mut copy, path)], [number; 2]);
-            let changes = [delete(&mut copy, path, 1), restore(&mut copy, path, 1), reclaim(&mut copy, 1)];
-            assert_eq!(changes.map(|answer| answer.refusal), [number; 3]);
+            let deletes = [delete(&mut copy, path, 1), delete_keep(&mut copy, path, 1)];
+            assert_eq!(deletes.map(|answer| answer.refusal), [number; 2]);
+            let changes = [restore(&mut copy, path, 1), reclaim(&mut copy, 1)];
+            assert_eq!(changes.map(|answer| answer.refusal), [number; 2]);
             assert_eq!(changed(&copy, image), []);
         }
     };
@@ -606,8 +610,7 @@ fn rewriting_comes_with_every_accepted_writing_call() {
     let area = at_slot(&image, 0);
     let tidy = with(&image, area + 64, &slot(&UNUSED).repeat(3));
     let mut output = [0; 99];
-    assert_eq!(opens(&image), 0);
-    assert_eq!([find(&image, b"f").refusal, read(&image, b"f", &mut output).refusal], [0; 2]);
+    assert_eq!([opens(&image), find(&image, b"f").refusal, read(&image, b"f", &mut output).refusal], [0; 3]);
     assert_eq!(list(&image, 0, &mut output).slot, 4);
     // Refused: as it was.
     let mut copy = image.clone();
@@ -616,15 +619,17 @@ fn rewriting_comes_with_every_accepted_writing_call() {
         [10, 12, 13]
     );
     assert_eq!(mkfile(&mut copy, b"x", &[0; 9_999]), 16);
-    assert_eq!([delete(&mut copy, b"x", 1).refusal, restore(&mut copy, b"f", 1).refusal], [11; 2]);
+    let refused = [delete(&mut copy, b"x", 1), delete_keep(&mut copy, b"x", 1), restore(&mut copy, b"f", 1)];
+    assert_eq!(refused.map(|answer| answer.refusal), [11; 3]);
     assert_eq!(restore(&mut copy, b"?", 1).refusal, 10);
     assert_eq!(changed(&copy, &image), []);
-    // A reclaim that has nothing else to do, a delete, and a create into the first of the slots.
-    assert_eq!(reclaim(&mut copy, 1).refusal, 0);
-    assert_eq!(changed(&copy, &tidy), []);
-    let mut copy = image.clone();
-    assert_eq!(delete(&mut copy, b"d", 1).refusal, 0);
-    assert_eq!(changed(&copy, &with(&tidy, area + 320, &slot(&UNUSED))), []);
+    // A reclaim that has nothing else to do, the deletes, and a create into the first of the slots.
+    assert_eq!((reclaim(&mut copy, 1).refusal, changed(&copy, &tidy)), (0, vec![]));
+    for call in [delete, delete_keep] {
+        let mut copy = image.clone();
+        assert_eq!(call(&mut copy, b"d", 1).refusal, 0);
+        assert_eq!(changed(&copy, &with(&tidy, area + 320, &slot(&UNUSED))), []);
+    }
     let mut copy = image.clone();
     assert_eq!(create_directory(&mut copy, b"e", 9).refusal, 0);
     assert_eq!(changed(&copy, &with(&tidy, area + 64, &directory(b"e"))), []);
@@ -689,7 +694,7 @@ fn a_create_between_held_blocks() {
     assert_eq!(mkfile(&mut image, b"next", &[1; 513]), 0);
     assert_eq!((find(&image, b"next").start, find(&image, b"next").end, data_size(&image)), (9, 10, 10));
     assert_eq!(listing_text(&image).split(|byte| *byte == b'\n').rev().nth(1), Some(b"live 5 held 8".as_slice()));
-    assert_eq!(delete(&mut image, b"next", 1).refusal, 0);
+    assert_eq!(delete_keep(&mut image, b"next", 1).refusal, 0);
     assert_eq!((data_size(&image), reclaim(&mut image, 1).refusal, data_size(&image)), (10, 0, 8));
 }
 
@@ -729,7 +734,7 @@ fn before_the_entries_of_all_its_directories() {
     for path in [b"f", b"g", b"d"] {
         assert_eq!(mkdir(&mut old, path), 0);
     }
-    assert_eq!([delete(&mut old, b"g", 1).refusal, reclaim(&mut old, 1).refusal], [0; 2]);
+    assert_eq!([delete_keep(&mut old, b"g", 1).refusal, reclaim(&mut old, 1).refusal], [0; 2]);
     assert_eq!(mkdir(&mut old, b"d/x"), 0);
     assert_eq!((find(&old, b"d/x").slot, find(&old, b"d").slot), (2, 1));
 }
@@ -738,9 +743,9 @@ fn before_the_entries_of_all_its_directories() {
 fn no_slot_before_a_directory_on_a_full_volume() {
     let mut image = fresh(1024, 256, 2);
     assert_eq!([mkdir(&mut image, b"f"), mkdir(&mut image, b"d")], [0; 2]);
-    assert_eq!(delete(&mut image, b"f", 1).refusal, 0);
+    assert_eq!(delete_keep(&mut image, b"f", 1).refusal, 0);
     assert_eq!(mkfile(&mut image, b"x", &[1; 256]), 0);
-    assert_eq!(delete(&mut image, b"x", 1).refusal, 0);
+    assert_eq!(delete_keep(&mut image, b"x", 1).refusal, 0);
     // A slot is free behind `d`, and the data area still leaves no room for another before it.
     assert_eq!((index_size(&image), data_size(&image)), (256, 1));
     assert_eq!([mkdir(&mut image, b"d/x"), mkfile(&mut image, b"d/x", &[1; 999])], [15; 2]);
@@ -769,25 +774,25 @@ fn histories_of_both_editions() {
     assert!(history.check(&resealed(&image, entry, entry + 19, &[3])).is_err());
     assert!(history.check(&resealed(&image, entry, entry + 35, b"c")).is_err());
     // Struck and given back at the delete; a reclaim gives nothing more.
-    history.tell(Told::Delete { path: b"a" }, false);
+    history.tell(Told::DeleteKeep { path: b"a" }, false);
     assert_eq!(history.check(&image), Ok(()));
-    history.tell(Told::Delete { path: b"a" }, true);
+    history.tell(Told::DeleteKeep { path: b"a" }, true);
     assert!(history.check(&image).is_err());
-    assert_eq!(delete(&mut image, b"a", 1).refusal, 0);
+    assert_eq!(delete_keep(&mut image, b"a", 1).refusal, 0);
     assert_eq!(history.check(&image), Ok(()));
     history.tell(Told::Reclaim, true);
     assert_eq!(history.check(&image), Ok(()));
     history.tell(Told::Restore { path: b"a" }, false);
     assert_eq!(history.check(&image), Ok(()));
-    // In edition 1.0 the same delete keeps them.
+    // In edition 1.0 the same call keeps them.
     for (version, kept) in [(OLD, true), (NEW, false)] {
         assert_eq!(format(&mut image, version, 512, 1, b"", 0).refusal, 0);
         history.tell(Told::Format { version, block: 512 }, true);
         assert_eq!(history.check(&image), Ok(()));
         assert_eq!(mkfile(&mut image, b"a", &[1; 600]), 0);
         history.tell(Told::File { path: b"a", bytes: &[1; 600] }, true);
-        assert_eq!(delete(&mut image, b"a", 1).refusal, 0);
-        history.tell(Told::Delete { path: b"a" }, true);
+        assert_eq!(delete_keep(&mut image, b"a", 1).refusal, 0);
+        history.tell(Told::DeleteKeep { path: b"a" }, true);
         assert_eq!(history.check(&image), Ok(()));
         assert_eq!(restore(&mut image, b"a", 1).refusal, if kept { 0 } else { 11 });
         history.tell(Told::Restore { path: b"a" }, kept);
@@ -835,7 +840,7 @@ fn a_full_index() {
     assert_eq!(opens(&image), 0);
     println!("open with 4,094 files: {:?}", begun.elapsed());
     assert_eq!(mkfile(&mut image, b"f", b""), 15);
-    assert_eq!(delete(&mut image, b"n9", 1).refusal, 0);
+    assert_eq!(delete_keep(&mut image, b"n9", 1).refusal, 0);
     assert_eq!(mkfile(&mut image, b"f", b""), 0);
     assert_eq!(slot_of(&image, b"f"), 9);
 }

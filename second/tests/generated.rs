@@ -26,7 +26,7 @@ fn scripts_are_the_same_every_time() {
     #[rustfmt::skip]
     let kinds = [
         "history", "damage", "built", "edges", "args", "names", "restore", "tails", "crowded", "sums", "editions",
-        "report", "regions",
+        "report", "regions", "wiping",
     ];
     for kind in kinds {
         let script = generator::script(3, 200, Some(kind));
@@ -60,7 +60,7 @@ fn named_calls(kind: &str) -> Vec<NamedCall> {
         let words: Vec<&str> = line.split(' ').collect();
         let name = match words[0] {
             "format" => words[4],
-            "find" | "read" | "mkfile" | "mkdir" | "delete" | "restore" => words[1],
+            "find" | "read" | "mkfile" | "mkdir" | "delete" | "deletekeep" | "restore" => words[1],
             _ => continue,
         };
         calls.push((words[0].to_string(), unhex(name), session.last));
@@ -209,7 +209,7 @@ fn count_situations(kind: &str) -> BTreeMap<&'static str, u64> {
         let path = words.get(1).copied().unwrap_or_default().to_string();
         match (words[0], session.last) {
             ("image" | "imagefill" | "format" | "poke", _) => deleted.clear(),
-            ("delete", 0) => drop(deleted.insert(path, Deleted { calls, index, image, homeless: false })),
+            ("deletekeep", 0) => drop(deleted.insert(path, Deleted { calls, index, image, homeless: false })),
             ("restore", 13) => deleted.get_mut(&path).into_iter().for_each(|one| one.homeless = true),
             ("restore", 0) => {
                 let one = deleted.remove(&path);
@@ -291,7 +291,7 @@ fn lines_are_as_described() {
         "find 0 1 18 1 2 3 9",
         "listing 18 0",
         "listing 0 44",
-        "api 1",
+        "api 2",
         "history ok",
         "history none",
     ];
@@ -381,6 +381,7 @@ fn any_image_gets_an_answer() {
                 "read 41 99",
                 "mkfile 42 1 fill:300:1",
                 "delete 41 1",
+                "deletekeep 42 1",
                 "restore 41 1",
                 "reclaim 1",
                 "listing 131072",
@@ -415,12 +416,20 @@ fn the_check_notices() {
         other[at] = byte;
         assert!(history.check(&other).is_err(), "{at} {byte}");
     }
+    let mut wiped = (history.clone(), image.clone());
+    wiped.0.tell(Told::Delete { path: b"a" }, false);
+    assert_eq!(wiped.0.check(&wiped.1), Ok(()));
+    wiped.0.tell(Told::Delete { path: b"a" }, true);
+    assert!(wiped.0.check(&wiped.1).is_err());
+    assert_eq!(second::delete(&mut wiped.1, b"a", 0).refusal, 0);
+    assert_eq!(wiped.0.check(&wiped.1), Ok(()));
     let mut later = history.clone();
-    later.tell(Told::Delete { path: b"a" }, false);
+    later.tell(Told::DeleteKeep { path: b"a" }, false);
     assert_eq!(later.check(&image), Ok(()));
-    later.tell(Told::Delete { path: b"a" }, true);
-    assert!(later.check(&image).is_err());
-    assert_eq!(second::delete(&mut image, b"a", 0).refusal, 0);
+    later.tell(Told::DeleteKeep { path: b"a" }, true);
+    assert!(later.check(&image).is_err() && later.check(&wiped.1).is_err());
+    assert_eq!(second::delete_keep(&mut image, b"a", 0).refusal, 0);
+    assert!(wiped.0.check(&image).is_err());
     assert_eq!(later.check(&image), Ok(()));
     later.tell(Told::Reclaim, true);
     assert!(later.check(&image).is_err());

@@ -4,7 +4,7 @@ mod common;
 
 use common::*;
 use second::names::{path_allowed, volume_name_allowed};
-use second::{create_file, delete, find, format, list, listing_text, open, reclaim};
+use second::{create_file, delete, delete_keep, find, format, list, listing_text, open, reclaim};
 
 const A_PAGE: &[u8] = "À la page".as_bytes();
 const KINDS: [u8; 4] = [0x11, 0x12, 0x19, 0x1A];
@@ -172,8 +172,11 @@ fn across_slots(kind: u8, name: &[u8], end: usize) {
     let between = name[end] >= 0xC0;
     assert_eq!(with(0), if between { [0; 2] } else { [6; 2] }, "{end} {name:x?}");
     assert_eq!([with(0x7E), with(0xFF)], [[6; 2]; 2], "{end} {name:x?}");
-    assert_eq!(delete(&mut image, name, 1).refusal, 0);
-    assert_eq!((find(&image, name).refusal, reclaim(&mut image, 1).refusal, opens(&image)), (11, 0, 0));
+    for call in [delete, delete_keep] {
+        let mut image = image.clone();
+        assert_eq!(call(&mut image, name, 1).refusal, 0);
+        assert_eq!((find(&image, name).refusal, reclaim(&mut image, 1).refusal, opens(&image)), (11, 0, 0));
+    }
 }
 
 #[test]

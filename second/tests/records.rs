@@ -12,12 +12,16 @@ use second::script::{lent, Session};
 use second::store::{Own, Store};
 use second::volume::Volume;
 use second::xorshift::Xorshift;
-use second::{create_directory, create_file, delete, format, list, list_all, listing, listing_text, Edition, Listed};
+use second::{
+    create_directory, create_file, delete_keep, format, list, list_all, listing, listing_text, Edition, Listed,
+};
 use second::{Records, API};
 use std::collections::{BTreeMap, BTreeSet};
 
-const KINDS: [&str; 11] =
-    ["history", "damage", "built", "edges", "args", "names", "restore", "tails", "crowded", "sums", "editions"];
+#[rustfmt::skip]
+const KINDS: [&str; 12] = [
+    "history", "damage", "built", "edges", "args", "names", "restore", "tails", "crowded", "sums", "editions", "wiping",
+];
 
 /// list_all in the words of its rule: what list answers one after the other.
 fn by_list(image: &[u8], slot: u64, output: &mut [u8]) -> Records {
@@ -191,7 +195,7 @@ fn mixed(edition: Edition) -> (Vec<u8>, Vec<u8>) {
     for path in [b"u", b"g", b"e"] {
         assert_eq!(create_file(&mut image, path, 5, if path == b"e" { b"" } else { b"x" }).refusal, 0);
     }
-    assert_eq!(delete(&mut image, b"g", 9).refusal, 0);
+    assert_eq!(delete_keep(&mut image, b"g", 9).refusal, 0);
     let at = |image: &[u8], slot: usize| image.len() - number(image, edition.super_field(0x1A4)) as usize + 64 * slot;
     let unusable = second::find(&image, b"u");
     let slot = at(&image, unusable.slot as usize);
@@ -404,5 +408,5 @@ fn listing_wants_its_room() {
 
 #[test]
 fn one_number_of_the_interface() {
-    assert_eq!((Own.api(), API), (1, 1));
+    assert_eq!((Own.api(), API), (2, 2));
 }

@@ -4,7 +4,9 @@ mod common;
 
 use common::*;
 use second::superblock::{BLOCK_SIZE, CHECKSUM, DATA, INDEX, MAGIC, RESERVED, TOTAL, VERSION};
-use second::{create_directory, create_file, delete, find, format, list, open, read, reclaim, Listed, Opened};
+use second::{
+    create_directory, create_file, delete, delete_keep, find, format, list, open, read, reclaim, Listed, Opened,
+};
 
 /// 16 blocks of 512 bytes with one directory and three files.
 fn sample() -> Vec<u8> {
@@ -351,12 +353,13 @@ fn directories_that_are_not_empty() {
     let mut image = sample();
     assert_eq!(mkdir(&mut image, b"d-"), 0);
     assert_eq!(mkdir(&mut image, b"d/e"), 0);
-    assert_eq!(delete(&mut image, b"d", 1).refusal, 14);
-    assert_eq!(delete(&mut image, b"d/f", 1).refusal, 0);
-    assert_eq!(delete(&mut image, b"d", 1).refusal, 14);
-    assert_eq!(delete(&mut image, b"d/e", 1).refusal, 0);
-    assert_eq!(delete(&mut image, b"d", 1).refusal, 0);
-    assert_eq!(create_file(&mut image, b"d/f", 1, b"").refusal, 13);
-    assert_eq!(create_directory(&mut image, b"d", 1).refusal, 0);
-    assert_eq!(reclaim(&mut image, 1).refusal, 0);
+    for call in [delete, delete_keep] {
+        let mut image = image.clone();
+        for (path, refusal) in [(b"d".as_slice(), 14), (b"d/f", 0), (b"d", 14), (b"d/e", 0), (b"d", 0)] {
+            assert_eq!(call(&mut image, path, 1).refusal, refusal);
+        }
+        assert_eq!(create_file(&mut image, b"d/f", 1, b"").refusal, 13);
+        assert_eq!(create_directory(&mut image, b"d", 1).refusal, 0);
+        assert_eq!(reclaim(&mut image, 1).refusal, 0);
+    }
 }

@@ -10,7 +10,7 @@ use second::refusal::{Counts, OF_REPORT};
 use second::report::{Lines, LEAST_ROOM, MOST_LINES, MOST_NAME, NUMBERS, PIECE, UNREAD};
 use second::script::{lent, Session};
 use second::volume::Volume;
-use second::{create_directory, create_file, delete, format, listing_text, restore, Edition};
+use second::{create_directory, create_file, delete_keep, format, listing_text, restore, Edition};
 use second::{list_all, report_add, report_of, report_text};
 use std::collections::{BTreeMap, BTreeSet};
 use std::fs;
@@ -19,9 +19,9 @@ use std::path::PathBuf;
 use std::process::{Command, Stdio};
 
 #[rustfmt::skip]
-const FAMILIES: [&str; 12] = [
+const FAMILIES: [&str; 13] = [
     "history", "damage", "built", "edges", "args", "names", "restore", "tails", "crowded", "sums", "editions",
-    "regions",
+    "regions", "wiping",
 ];
 
 /// The lines of a report over these images.
@@ -99,7 +99,7 @@ fn deleted_ones_by_edition() {
         assert_eq!(mkfile(&mut image, &[b'f'; 40], &[1; 700]), 0);
         assert_eq!(mkdir(&mut image, b"d"), 0);
         for path in [[b'f'; 40].as_slice(), b"d"] {
-            assert_eq!(delete(&mut image, path, 9).refusal, 0);
+            assert_eq!(delete_keep(&mut image, path, 9).refusal, 0);
         }
         let held = [[0; 3], [2, 2, 700], [0; 3], [1, 0, 0], [0; 3], [0; 3]];
         let free = [[0; 3], [0; 3], [0; 3], [0; 3], [0; 3], [3, 0, 0]];

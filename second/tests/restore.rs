@@ -6,7 +6,7 @@ use common::*;
 use second::history::{History, Told};
 use second::script::Session;
 use second::superblock::{CHECKSUM, INDEX, MAGIC, STAMP, TOTAL, VERSION};
-use second::{delete, find, format, list, listing_text, read, reclaim, restore, Listed};
+use second::{delete_keep, find, format, list, listing_text, read, reclaim, restore, Listed};
 
 /// Restores, and asserts that a refusal writes nothing.
 fn back(image: &mut [u8], path: &[u8]) -> u8 {
@@ -17,7 +17,7 @@ fn back(image: &mut [u8], path: &[u8]) -> u8 {
 }
 
 fn gone(image: &mut [u8], path: &[u8]) {
-    assert_eq!(delete(image, path, 66).refusal, 0, "{path:x?}");
+    assert_eq!(delete_keep(image, path, 66).refusal, 0, "{path:x?}");
 }
 
 /// Makes an entry and deletes it.
@@ -209,8 +209,8 @@ fn nine_bytes() {
     mkdir(&mut image, b"d");
     mkfile(&mut image, b"d/f", &[7; 600]);
     let entries = [(b"d".as_slice(), 0x11), (b"d/f", 0x12)].map(|(path, kind)| (path, kind, entry_at(&image, path)));
-    delete(&mut image, b"d/f", 0);
-    delete(&mut image, b"d", 0);
+    delete_keep(&mut image, b"d/f", 0);
+    delete_keep(&mut image, b"d", 0);
     for (path, kind, entry) in entries {
         let before = image.clone();
         assert_eq!(restore(&mut image, path, -1).refusal, 0);
@@ -230,7 +230,7 @@ fn the_old_stamp_undoes_a_delete() {
     for path in [b"d/f".as_slice(), &[b'l'; 100]] {
         let before = image.clone();
         for stamp in [i64::MIN, -1, 0, i64::MAX] {
-            assert_eq!(delete(&mut image, path, stamp).refusal, 0);
+            assert_eq!(delete_keep(&mut image, path, stamp).refusal, 0);
             assert_ne!(image, before);
             assert_eq!(restore(&mut image, path, 5).refusal, 0);
             assert_eq!(image, before);
@@ -285,7 +285,7 @@ fn a_directory_comes_back_empty() {
     // Empty, it can be deleted and brought back once more.
     gone(&mut image, b"d");
     assert_eq!([back(&mut image, b"d"), back(&mut image, b"d/e/f"), back(&mut image, b"d/e")], [0, 13, 0]);
-    assert_eq!([back(&mut image, b"d/e/f"), delete(&mut image, b"d", 1).refusal], [0, 14]);
+    assert_eq!([back(&mut image, b"d/e/f"), delete_keep(&mut image, b"d", 1).refusal], [0, 14]);
     let mut output = [0; 3];
     assert_eq!((read(&image, b"d/e/f", &mut output).length, &output), (3, b"abc"));
 }
@@ -398,9 +398,9 @@ const STORY: [(&str, &str); 36] = [
     ("mkfile 61 1 fill:600:1", "mkfile 0"),
     ("mkdir 64 1", "mkdir 0"),
     ("mkfile 642f66 1 fill:700:2", "mkfile 0"),
-    ("delete 61 2", "delete 0"),
-    ("delete 642f66 2", "delete 0"),
-    ("delete 64 2", "delete 0"),
+    ("deletekeep 61 2", "deletekeep 0"),
+    ("deletekeep 642f66 2", "deletekeep 0"),
+    ("deletekeep 64 2", "deletekeep 0"),
     ("history", "history ok"),
     ("restore 642f66 3", "restore 13"),
     ("restore 64 3", "restore 0"),
@@ -415,18 +415,18 @@ const STORY: [(&str, &str); 36] = [
     ("mkfile 62 5 fill:1024:3", "mkfile 0"),
     ("find 62", "find 0 1 18 3 5 1024 5"),
     ("read 61 600", "read 0 600"),
-    ("delete 61 6", "delete 0"),
+    ("deletekeep 61 6", "deletekeep 0"),
     ("mkfile 61 6 fill:512:4", "mkfile 0"),
     ("restore 61 7", "restore 12"),
-    ("delete 61 8", "delete 0"),
+    ("deletekeep 61 8", "deletekeep 0"),
     ("restore 61 9", "restore 19"),
     ("history", "history ok"),
     ("reclaim 9", "reclaim 0"),
     ("restore 61 9", "restore 11"),
     ("history", "history ok"),
-    ("delete 62 9", "delete 0"),
+    ("deletekeep 62 9", "deletekeep 0"),
     ("restore 62 9", "restore 0"),
-    ("delete 62 9", "delete 0"),
+    ("deletekeep 62 9", "deletekeep 0"),
     ("reclaim 9", "reclaim 0"),
     ("history", "history ok"),
     ("open 0", "open 0 16 16 1 512 0 384 9 0 0 16"),
@@ -440,7 +440,7 @@ fn history_over_a_story() {
         expected[number] = count;
     }
     assert_eq!(session.answers("restore"), expected);
-    assert_eq!((session.answers("delete")[0], session.answers("no such word")), (7, [0; 20]));
+    assert_eq!((session.answers("deletekeep")[0], session.answers("no such word")), (7, [0; 20]));
 }
 
 #[test]
@@ -450,7 +450,7 @@ fn history_notices() {
     mkfile(&mut image, b"a", &[1; 600]);
     history.tell(Told::File { path: b"a", bytes: &[1; 600] }, true);
     gone(&mut image, b"a");
-    history.tell(Told::Delete { path: b"a" }, true);
+    history.tell(Told::DeleteKeep { path: b"a" }, true);
     assert_eq!(history.check(&image), Ok(()));
     history.tell(Told::Restore { path: b"a" }, false);
     assert_eq!(history.check(&image), Ok(()));
@@ -468,7 +468,7 @@ fn history_notices() {
     gone(&mut lost, b"a");
     reclaim(&mut lost, 1);
     assert!(history.check(&lost).is_err());
-    history.tell(Told::Delete { path: b"a" }, true);
+    history.tell(Told::DeleteKeep { path: b"a" }, true);
     history.tell(Told::Reclaim, true);
     assert!(history.check(&image).is_err());
     assert_eq!(history.check(&lost), Ok(()));
@@ -485,7 +485,7 @@ fn lines_of_a_script() {
     }
     let made = session.execute("find 61").unwrap().unwrap();
     let image = made.split_once(" img=").unwrap().1;
-    session.execute("delete 61 6").unwrap();
+    session.execute("deletekeep 61 6").unwrap();
     assert_eq!(session.execute("restore 61 5").unwrap().unwrap(), format!("restore 0 img={image}"));
     for line in ["restore", "restore 61", "restore 61 x", "restore 61 1 2", "restore 6 1", "restore 61 fill:1:1"] {
         assert!(session.execute(line).is_err(), "{line}");

@@ -9,7 +9,7 @@ use second::index::{START_AT, UNUSABLE};
 use second::refusal::{Counts, OF_REGIONS};
 use second::script::{digest, lent_table, table_bytes, Session};
 use second::superblock::{self, Geometry, MOST_INDEX};
-use second::{create_directory, create_file, delete, find, open, reclaim, restore};
+use second::{create_directory, create_file, delete_keep, find, open, reclaim, restore};
 use second::{index, regions, selftest, sharing, sharing_plain, Edition, TableRegion, Tabled};
 use std::collections::BTreeMap;
 
@@ -196,13 +196,13 @@ fn deleted_files_by_edition() {
         let all = vec![(2, 4), (4, 5), (5, 6)];
         let left = vec![(2, 4), (5, 6)];
         assert_eq!(asked(&image, 3), (0, all.clone()));
-        assert_eq!(delete(&mut image, b"b", 0).refusal, 0);
+        assert_eq!(delete_keep(&mut image, b"b", 0).refusal, 0);
         let kept = edition.keeps_deleted();
         assert_eq!(asked(&image, 3), (0, if kept { all.clone() } else { left.clone() }));
         assert_eq!(asked(&image, 2), if kept { (18, NONE) } else { (0, left.clone()) });
         if restore(&mut image, b"b", 0).refusal == 0 {
             assert_eq!(asked(&image, 3), (0, all));
-            assert_eq!(delete(&mut image, b"b", 0).refusal, 0);
+            assert_eq!(delete_keep(&mut image, b"b", 0).refusal, 0);
         }
         assert_eq!(reclaim(&mut image, 0).refusal, 0);
         assert_eq!(asked(&image, 2), (0, left));
@@ -690,7 +690,7 @@ fn generated_before_and_after() {
         let text = session.execute(line).unwrap().unwrap_or_default();
         let word = line.split(' ').next().unwrap_or_default();
         match word {
-            "delete" | "reclaim" | "restore" | "mkfile" if session.last == 0 => {
+            "delete" | "deletekeep" | "reclaim" | "restore" | "mkfile" if session.last == 0 => {
                 called = Some((word.to_string(), edition, last.clone()));
             }
             "regions" => {
@@ -706,14 +706,14 @@ fn generated_before_and_after() {
     println!("{counts:?}");
     let changed = |word: &str, edition| counts.get(&(word.to_string(), Some(edition), false)).copied().unwrap_or(0);
     for edition in Edition::ALL {
-        assert!(["delete", "reclaim"].iter().all(|word| changed(word, edition) > 5), "{counts:?}");
+        assert!(["delete", "deletekeep", "reclaim"].iter().all(|word| changed(word, edition) > 5), "{counts:?}");
     }
     assert!(changed("restore", Edition::V1_0) > 2, "{counts:?}");
 }
 
 #[test]
 fn other_families_end_with_tables() {
-    for kind in ["history", "damage", "built"] {
+    for kind in ["history", "damage", "built", "wiping"] {
         let (mut tables, mut engines) = (0, 0);
         let sessions = each_line(Some(kind), 5, 4_000, |line, _, _| {
             tables += u64::from(line.starts_with("regions ="));

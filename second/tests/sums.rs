@@ -200,7 +200,7 @@ fn assert_all<T: std::fmt::Debug + Ord>(counts: &BTreeMap<T, u64>, kinds: usize,
 #[test]
 fn facts_of_every_sort() {
     let mut counts = BTreeMap::new();
-    each_call("sums", 20_000, |line, before, _, _| {
+    each_call("sums", 30_000, |line, before, _, _| {
         if line.starts_with("open") && before.len() >= 512 {
             facts(before).into_iter().for_each(|name| *counts.entry(name).or_default() += 1);
         }
@@ -247,7 +247,7 @@ fn indexes_claimed_many_times_over() {
         counts.remove(word);
     }
     // Every other call accepted on such an index, but for restore, which never is, and format.
-    assert_all(&counts, 9, 5);
+    assert_all(&counts, 10, 5);
 }
 
 /// The first and last block of a file or unusable entry, and the bounds of the data area: its first block, and the one
@@ -318,7 +318,7 @@ fn rewriting_by_every_call() {
     let mut counts = BTreeMap::new();
     each_call("sums", 24_000, |line, before, after, answer| {
         let word = line.split(' ').next().unwrap_or_default().to_string();
-        let writes = matches!(word.as_str(), "mkfile" | "mkdir" | "delete" | "reclaim");
+        let writes = matches!(word.as_str(), "mkfile" | "mkdir" | "delete" | "deletekeep" | "reclaim");
         if !writes || Edition::of_image(before) != Some(NEWER) {
             return;
         }
@@ -331,7 +331,7 @@ fn rewriting_by_every_call() {
     });
     // A reclaim is refused with the whole volume only, and then most walks do not get far.
     counts.retain(|(word, _, accepted), _| *accepted || word != "reclaim");
-    assert_all(&counts, 4 * 4 + 3 * 4, 3);
+    assert_all(&counts, 5 * 4 + 4 * 4, 3);
 }
 
 /// The numbers of all calls of a family on images of edition 1.10.
@@ -346,7 +346,7 @@ fn answers(kind: Option<&str>, count: u64) -> Counts {
 #[test]
 fn answers_of_every_sort() {
     for kind in [None, Some("sums")] {
-        let counts = answers(kind, 20_000);
+        let counts = answers(kind, 30_000);
         println!("{}", selftest::newer_table(&counts));
         assert!(OF_1_10.iter().all(|number| counts[usize::from(*number)] > 5), "{kind:?}: {counts:?}");
         // Neither by the version nor by deleted entries.
@@ -356,7 +356,7 @@ fn answers_of_every_sort() {
 
 /// What a call can answer on an image with a magic besides 0 and the numbers of the whole volume, in 1.0 and in 1.10.
 #[rustfmt::skip]
-const OF_CALLS: [(&str, &[u8], &[u8]); 13] = [
+const OF_CALLS: [(&str, &[u8], &[u8]); 14] = [
     ("open", &[18], &[18]),
     ("find", &[10, 11], &[10, 11]),
     ("list", &[18], &[18]),
@@ -365,6 +365,7 @@ const OF_CALLS: [(&str, &[u8], &[u8]); 13] = [
     ("mkfile", &[9, 10, 12, 13, 15, 16], &[10, 12, 13, 15, 16]),
     ("mkdir", &[9, 10, 12, 13, 15], &[10, 12, 13, 15]),
     ("delete", &[9, 10, 11, 14], &[10, 11, 14]),
+    ("deletekeep", &[9, 10, 11, 14], &[10, 11, 14]),
     ("restore", &[9, 10, 11, 12, 13, 19], &[10, 11]),
     ("reclaim", &[9], &[]),
     ("listing", &[18], &[18]),
@@ -394,7 +395,7 @@ fn answerable(word: &str, edition: Option<Edition>) -> Vec<u8> {
 #[test]
 fn every_answer_of_every_call_in_both_editions() {
     let mut met = BTreeMap::<_, Counts>::new();
-    for seed in 2_001..=2_010 {
+    for seed in 2_001..=2_020 {
         let mut session = Session::without_digests();
         for line in generator::script(seed, 10_000, None).unwrap_or_default().lines() {
             session.execute(line).unwrap();
@@ -406,7 +407,7 @@ fn every_answer_of_every_call_in_both_editions() {
     }
     println!("{}", selftest::call_table(&met));
     // The text of a report goes by no image.
-    assert_eq!(met.len(), 15 * 3 + 1);
+    assert_eq!(met.len(), 16 * 3 + 1);
     for ((word, edition), counts) in &met {
         let numbers: Vec<u8> = (0..).zip(counts).filter(|(_, count)| **count > 0).map(|(number, _)| number).collect();
         assert_eq!(numbers, answerable(word, *edition), "{word} {edition:?}");
@@ -418,6 +419,7 @@ fn every_family_in_both_editions() {
     #[rustfmt::skip]
     let kinds = [
         "history", "damage", "built", "edges", "args", "names", "restore", "tails", "crowded", "editions", "regions",
+        "wiping",
     ];
     for kind in kinds {
         let mut read = BTreeMap::new();

@@ -93,7 +93,7 @@ fn each_search(seed: u64, mut show: impl FnMut(bool, &[u8], &[Run], u8)) -> Sess
     let mut session = Session::without_digests();
     for line in generator::script(seed, CALLS, Some("tails")).unwrap_or_default().lines() {
         let words: Vec<&str> = line.split(' ').collect();
-        let has_path = matches!(words[0], "find" | "read" | "mkfile" | "mkdir" | "delete" | "restore");
+        let has_path = matches!(words[0], "find" | "read" | "mkfile" | "mkdir" | "delete" | "deletekeep" | "restore");
         let before = if has_path { runs(session.image()) } else { Vec::new() };
         session.execute(line).unwrap();
         if has_path && !(1..=10).contains(&session.last) {
@@ -112,6 +112,7 @@ fn answers_of_every_sort() {
         ("find", session.answers("find"), &[0, 10, 11]),
         ("read", session.answers("read"), &[0, 10, 11, 17]),
         ("delete", session.answers("delete"), &[0, 10, 11, 14]),
+        ("deletekeep", session.answers("deletekeep"), &[0, 10, 11, 14]),
         ("restore", session.answers("restore"), &[0, 10, 11, 12, 13, 19]),
         ("create", created, &[0, 10, 12, 13]),
         ("reclaim", session.answers("reclaim"), &[0]),

@@ -4,7 +4,7 @@ mod common;
 
 use common::*;
 use second::superblock::{DATA, STAMP};
-use second::{create_directory, create_file, delete, find, format, list, open, read, reclaim};
+use second::{create_directory, create_file, delete, delete_keep, find, format, list, open, read, reclaim};
 
 #[test]
 fn growth_moves_the_marker() {
@@ -37,7 +37,7 @@ fn first_fit_of_slots() {
     }
     // Slots 1 to 5 hold e, d, c, b, a.
     for path in [b"e", b"c", b"b"] {
-        delete(&mut image, path, 1);
+        delete_keep(&mut image, path, 1);
     }
     let stamp = number(&image, STAMP);
     assert_eq!(mkdir(&mut image, b"early"), 0);
@@ -59,7 +59,7 @@ fn growth_does_not_join_the_unused_slot() {
     let mut image = fresh(8192, 512, 1);
     mkfile(&mut image, b"a", b"");
     mkfile(&mut image, b"b", b"");
-    delete(&mut image, b"b", 1);
+    delete_keep(&mut image, b"b", 1);
     reclaim(&mut image, 1);
     assert_eq!(index_size(&image), 256);
     // Slot 1 is unused, yet the index grows by both slots.
@@ -74,7 +74,7 @@ fn first_fit_of_blocks() {
     mkfile(&mut image, b"a", &[1; 1024]);
     mkfile(&mut image, b"b", &[2; 512]);
     mkfile(&mut image, b"c", &[3; 512]);
-    delete(&mut image, b"a", 1);
+    delete_keep(&mut image, b"a", 1);
     // A deleted file's blocks are not free.
     mkfile(&mut image, b"d", &[4; 512]);
     assert_eq!((find(&image, b"d").start, data_size(&image)), (5, 5));
@@ -96,13 +96,13 @@ fn stamp_only_with_a_size() {
     let mut image = fresh(16_384, 512, 1);
     create_file(&mut image, b"a", 100, &[1; 512]);
     assert_eq!(number(&image, STAMP), 100);
-    delete(&mut image, b"a", 200);
+    delete_keep(&mut image, b"a", 200);
     assert_eq!(number(&image, STAMP), 100);
     reclaim(&mut image, 300);
     assert_eq!((number(&image, STAMP), data_size(&image)), (300, 0));
     create_directory(&mut image, b"a", 400);
     assert_eq!(number(&image, STAMP), 300);
-    delete(&mut image, b"a", 450);
+    delete_keep(&mut image, b"a", 450);
     reclaim(&mut image, 500);
     assert_eq!(number(&image, STAMP), 300);
     create_file(&mut image, b"b", 600, &[1]);
@@ -110,14 +110,14 @@ fn stamp_only_with_a_size() {
 }
 
 #[test]
-fn delete_changes_nine_bytes() {
+fn delete_keep_changes_nine_bytes() {
     let mut image = fresh(8192, 512, 1);
     create_directory(&mut image, b"d", 0);
     create_file(&mut image, b"d/f", 0, b"abc");
     for (path, kind) in [(b"d/f".as_slice(), 0x1A), (b"d", 0x19)] {
         let entry = entry_at(&image, path);
         let before = image.clone();
-        assert_eq!(delete(&mut image, path, -1).refusal, 0);
+        assert_eq!(delete_keep(&mut image, path, -1).refusal, 0);
         let nine: Vec<usize> = std::iter::once(entry).chain(entry + 2..entry + 10).collect();
         assert_eq!(changed(&before, &image), nine);
         assert_eq!(image[entry], kind);
@@ -133,7 +133,7 @@ fn reclaim_empties_deleted_runs_only() {
     let odd = entry_at(&image, b"odd");
     put(&mut image, odd, &[0x1F, 0xFF, 0xFF]);
     let run = entry_at(&image, &[b'l'; 30]);
-    delete(&mut image, &[b'l'; 30], 1);
+    delete_keep(&mut image, &[b'l'; 30], 1);
     let before = image.clone();
     assert_eq!(reclaim(&mut image, 77).refusal, 0);
     let mut unused = [0; 128];
@@ -200,8 +200,11 @@ fn a_full_large_volume() {
     println!("open with 4,094 live entries: {:?}", begun.elapsed());
     assert_eq!(list(&image, 4094, &mut [0; 20]).slot, 4094);
     assert_eq!(mkfile(&mut image, b"more", b""), 15);
-    assert_eq!(delete(&mut image, b"file7919", 1).refusal, 11);
-    assert_eq!(delete(&mut image, b"file1", 1).refusal, 0);
+    assert_eq!(delete_keep(&mut image, b"file7919", 1).refusal, 11);
+    let mut wiped = image.clone();
+    assert_eq!([delete(&mut wiped, b"file7919", 1).refusal, delete(&mut wiped, b"file1", 1).refusal], [11, 0]);
+    assert_eq!([mkfile(&mut wiped, b"more", &[9; 4097]), mkfile(&mut wiped, b"more", &[9; 4096])], [16, 0]);
+    assert_eq!(delete_keep(&mut image, b"file1", 1).refusal, 0);
     assert_eq!(reclaim(&mut image, 1).refusal, 0);
     assert_eq!(mkfile(&mut image, b"more", &[9; 4097]), 16);
     assert_eq!(mkfile(&mut image, b"more", &[9; 4096]), 0);
@@ -213,7 +216,7 @@ fn answers_depend_on_the_named_parts_only() {
     mkdir(&mut image, b"d");
     mkfile(&mut image, b"d/f", &[3; 700]);
     mkfile(&mut image, b"gone", &[4; 700]);
-    delete(&mut image, b"gone", 1);
+    delete_keep(&mut image, b"gone", 1);
     let area = slot_at(&image, 0);
     let found = find(&image, b"d/f");
     let file = found.start as usize * 512..found.end as usize * 512;

@@ -39,7 +39,7 @@ const PROGRAMS: &[(&str, &dyn Store)] = &[
 type Call = fn(&dyn Store, &mut [u8], &[u8], &mut [u8]) -> Refusal;
 
 /// What each call is timed on: the volume, or one with an entry less for what a create adds.
-const CALLS: [(&str, Call); 10] = [
+const CALLS: [(&str, Call); 12] = [
     ("open", |store, image, _, out| black_box(store.open(image, out)).refusal),
     ("find", |store, image, path, _| black_box(store.find(image, path)).refusal),
     ("list", |store, image, _, out| black_box(store.list(image, 0, out)).refusal),
@@ -48,6 +48,8 @@ const CALLS: [(&str, Call); 10] = [
     ("read", |store, image, _, out| black_box(store.read(image, BIG, out)).refusal),
     ("create", |store, image, _, out| black_box(store.create_file(image, b"new", 1, out)).refusal),
     ("delete", |store, image, path, _| black_box(store.delete(image, path, 1)).refusal),
+    ("delete of 1 MiB", |store, image, _, _| black_box(store.delete(image, BIG, 1)).refusal),
+    ("delete keep", |store, image, path, _| black_box(store.delete_keep(image, path, 1)).refusal),
     ("reclaim", |store, image, _, _| black_box(store.reclaim(image, 1)).refusal),
     ("restore", |store, image, _, _| black_box(store.restore(image, GONE, 1)).refusal),
 ];

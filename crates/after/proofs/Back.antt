@@ -1,4 +1,4 @@
--- Two calls, one after the other: a delete and a restore with the old stamp give the old image, where deleted entries are kept; where not, and after a
+-- Two calls, one after the other: a delete that keeps and a restore with the old stamp give the old image, where deleted entries are kept; where not, and after a
 -- reclaim, there is nothing to restore.
 use Prim.Native.Nat.{ℕ, _+_, _≤_}
 use mathlib.Core.Path.{_≡_, refl, sym, ap, ap₂, subst, _∙_}
@@ -23,7 +23,7 @@ use Rattle.rules.specs.Paths.{isLive, isDeleted, liveAt, deletedAt, lookup, any
 use Rattle.rules.specs.Paths.Laws.{any-first}
 use Rattle.rules.specs.Refusals.{accepted, Volume, entries, judge}
 use Rattle.rules.specs.Refusals.Laws.{Opens, judge-opens, opens-judge}
-use Rattle.rules.specs.Writing.{nearestLive, deletedKind, deleteOf, liveKind, restored, restoreOf, undeleted, reclaimOf}
+use Rattle.rules.specs.Writing.{nearestLive, onDeletable, deletedKind, deleted, deleteKeepOf, liveKind, restored, restoreOf, undeleted, reclaimOf}
 use Rattle.rules.specs.Writing.Laws.{refusedWrite, wrote, restore-none, restore-several, restore-done}
 use Rattle.after.specs.After.{DeletedRestored, ReclaimedRestored}
 use Rattle.laws.proofs.Lists.Parts.{some-same}
@@ -39,13 +39,15 @@ use Rattle.laws.proofs.Entries.Retyping.{retype-by}
 use Rattle.laws.proofs.Entries.Deleting.{deleteAt, deletes, takes-away, delete-paths}
 use Rattle.laws.proofs.Images.Accepted.{passed-may}
 use Rattle.laws.proofs.Images.Indexes.{entry-room, kind-there, stamp-there}
+use Rattle.laws.proofs.Images.Live.{place, live, at-path, others}
 use Rattle.laws.proofs.Images.Tidying.{tidied-kept}
 use Rattle.after.proofs.Retype.Left.{entries-before, entries-after, entries-map, changed, image, volume, opens}
-use Rattle.after.proofs.Delete.{DeletePassed, delete-passed, place, live, at-path, others, image-kept, opens-struck}
+use Rattle.after.proofs.Deletable.{DeletePassed, delete-passed}
+use Rattle.after.proofs.DeleteKeep.{image-kept, opens-struck}
 use Rattle.after.proofs.Reclaim.Left.{reclaim-reopens}
 
 module _ (s : List ℕ) (v : Volume) (path : List ℕ) (stamp : ℤ) (bytes : Bytes s) (o : Opens s v) (keeps : keepsDeleted (v .geometry .edition) ≡ true)
-    (d : DeletePassed s v path stamp) (may : writable (v .geometry) ≡ true) where
+    (d : DeletePassed s v path (deleted stamp)) (may : writable (v .geometry) ≡ true) where
   abbrev it : Entry
   it = d .it
 
@@ -167,23 +169,23 @@ none-there t u o strikes path =
     none-first (deletedAt path) (entries u)
     (all-weaken _ _ (λ e h. is-false (deletedAt path e) (λ a. not-both (keepsDeleted (u .geometry .edition)) (h (deletedAt-says path e a .0)) strikes)) (entries u) (deleted-entries t u o))
 
-struck : (s : List ℕ) (v : Volume) (path : List ℕ) (stamp second : ℤ) → Opens s v → DeletePassed s v path stamp → writable (v .geometry) ≡ true
+struck : (s : List ℕ) (v : Volume) (path : List ℕ) (stamp second : ℤ) → Opens s v → DeletePassed s v path (deleted stamp) → writable (v .geometry) ≡ true
     → keepsDeleted (v .geometry .edition) ≡ false
-    → let t : List ℕ = deleteOf s path stamp .image in
+    → let t : List ℕ = deleteKeepOf s path stamp .image in
     restoreOf t path second ≡ refusedWrite t 11
 struck s v path stamp second o d may strikes =
     let r = opens-struck s v path stamp o d strikes in
-    let t : List ℕ = deleteOf s path stamp .image in
+    let t : List ℕ = deleteKeepOf s path stamp .image in
     restore-none t (r .0) (opens-judge t (r .0) (r .2)) (ap writable (r .1) ∙ may) path second (d .named)
     (none-there t (r .0) (r .2) (ap (λ (g : Geometry). keepsDeleted (g .edition)) (r .1) ∙ strikes) path)
 
 pub deleted-restored : DeletedRestored
-unfolding deleteOf
+unfolding deleteKeepOf onDeletable
 deleted-restored s v path e stamp bytes o f z =
-    let d = delete-passed s v path stamp o z in
+    let d = delete-passed s v path (deleted stamp) o z in
     let i = judge-opens s v o in
     let may = passed-may s v _ o z in
-    let t : List ℕ = deleteOf s path stamp .image in
+    let t : List ℕ = deleteKeepOf s path stamp .image in
     pick-by (λ r. restoreOf t path (e .stamp) ≡ r) (keepsDeleted (v .geometry .edition)) _ _
     (λ keeps.
     subst (λ (x : Entry). restoreOf t path (x .stamp) ≡ pick (any (deletedAt path) (entries v)) (refusedWrite t 19) (wrote s))

@@ -1,157 +1,171 @@
--- An accepted delete leaves an image that opens, with its entry marked deleted, or struck where deleted entries are not kept.
-use Prim.Native.Nat.{ℕ}
-use mathlib.Core.Path.{_≡_, refl, ap, subst, _∙_}
-use mathlib.Core.Bool.{Bool, true, false, _&&_, not}
-use mathlib.Core.List.{List, _∷_, _++_, map}
+-- An accepted delete leaves an image that opens, with its entry struck; where the file's bytes were are zeros, and where its name was are unused slots.
+use Prim.Native.Nat.{ℕ, _+_, _*_, _≤_}
+use mathlib.Core.Path.{_≡_, refl, sym, ap, subst, _∙_}
+use mathlib.Core.Bool.{true, false, not}
+use mathlib.Core.List.{List, map}
+use mathlib.Core.Logic.{_⊎_, inl, inr}
 use mathlib.Core.Option.{some}
 use native.Mathlib.Omega.{arith}
-use borrow.Author.Tests.{not-true}
+use native.Mathlib.Nat.{zero-mul}
+use lib.ListN.{length, replicate, length-replicate}
 use lib.IntN.{ℤ}
-use Rattle.rules.specs.Lists.{pick, only, eqList, All}
-use Rattle.rules.specs.Lists.Laws.{and-true, pick-true, pick-false}
-use Rattle.rules.specs.Fields.{splice}
-use Rattle.rules.specs.Editions.{keepsDeleted}
-use Rattle.rules.specs.SuperBlock.{blockLength}
-use Rattle.rules.specs.SuperBlock.Laws.{storedStamp}
-use Rattle.rules.specs.Names.{pathGood}
-use Rattle.rules.specs.Index.{Entry, entry, entriesOf, slotAt, unusedBytes, retyped}
-use Rattle.rules.specs.Paths.{isLive, liveAt, lookup, anyBelow, pathsSound}
+use Rattle.rules.specs.Lists.{only, part, All}
+use Rattle.rules.specs.Fields.Laws.{length-splice, part-splice-in}
+use Rattle.rules.specs.Editions.{Edition}
+use Rattle.rules.specs.SuperBlock.{Geometry, blockLength, putSizes}
+use Rattle.rules.specs.Index.{Entry, slotBytes, slotAt, unusedBytes}
+use Rattle.rules.specs.Index.Laws.{length-unusedBytes}
+use Rattle.rules.specs.Regions.{blocksOf, regionGood, apart}
+use Rattle.rules.specs.Paths.{liveAt, lookup, anyBelow}
 use Rattle.rules.specs.Refusals.{accepted, Volume, entries, judge}
-use Rattle.rules.specs.Refusals.Laws.{Opens, judge-opens}
-use Rattle.rules.specs.Writing.{Written, deleteOf, deletedKind, deleted}
+use Rattle.rules.specs.Refusals.Laws.{Opens, judge-opens, opens-judge}
+use Rattle.rules.specs.Writing.{runCleared, regionCleared, trimmedTo, without, wiped, deleteOf, Wiped, DeleteWipes}
 use Rattle.rules.specs.Writing.Laws.{tidyImage}
-use Rattle.rules.specs.History.{keptAt, marked}
-use Rattle.after.specs.After.{seen, Left, sight, unusables, AfterDelete}
-use Rattle.laws.proofs.Lists.Every.{all-of, pick-by}
-use Rattle.laws.proofs.Index.Entries.{retypedEntry}
-use Rattle.laws.proofs.Index.Places.{Found, first-split, entriesOf-append}
-use Rattle.laws.proofs.Entries.EntryKinds.{deleted-gone}
-use Rattle.laws.proofs.Entries.Paths.{liveAt-says, live-alone, paths-says}
-use Rattle.laws.proofs.Entries.Retyping.{retype-by}
-use Rattle.laws.proofs.Entries.Deleting.{deleteAt, deletes, delete-paths}
-use Rattle.laws.proofs.Images.Accepted.{passed-need, passed-found, passed-writable, passed-done}
-use Rattle.laws.proofs.Images.Tidying.{settledVolume, settled-entries, opens-settled, tidied-kept, tidied-opens}
+use Rattle.rules.specs.History.{keptAt}
+use Rattle.after.specs.After.{isNamed, seen, Left, sight, unusables, AfterDelete}
+use Rattle.laws.proofs.Lists.Parts.{some-same}
+use Rattle.laws.proofs.Lists.Every.{all-and, all-only, all-weaken, map-ext}
+use Rattle.laws.proofs.Index.Items.{noFault, tidy}
+use Rattle.laws.proofs.Index.Slots.{slot-at}
+use Rattle.laws.proofs.Index.Ends.{ends-good}
+use Rattle.laws.proofs.Entries.Regions.{Regionless, Within, sound-says}
+use Rattle.laws.proofs.Entries.Walked.{Bare, bare-entries}
+use Rattle.laws.proofs.Entries.Paths.{paths-strike}
+use Rattle.laws.proofs.Images.Areas.{within-in}
+use Rattle.laws.proofs.Images.Indexes.{entry-whole}
+use Rattle.laws.proofs.Images.Region.{RegionKept, blocks-written, others-bytes}
+use Rattle.laws.proofs.Images.Live.{place, held, others-apart, cleared-live}
+use Rattle.laws.proofs.Images.Tidying.{settledVolume, settled-entries, opens-settled, tidied-opens}
+use Rattle.after.proofs.Sights.{seen-same, without-seen, extents-without}
 use Rattle.after.proofs.Tidied.{sight-tidied, unusables-tidied}
-use Rattle.after.proofs.Retype.Left.{retype-left}
-use Rattle.after.proofs.Strike.{volume, strike-opens, strike-left}
+use Rattle.after.proofs.Trim.{sealed, index, long, image, between, trim-left}
+use Rattle.after.proofs.Deletable.{DeletePassed, delete-passed}
 
--- ---- what an accepted delete has passed
-pub record DeletePassed (s : List ℕ) (v : Volume) (path : List ℕ) (stamp : ℤ) : Type 0 where
-  pub named : pathGood path ≡ true
-  pub it : Entry
-  pub found : lookup path (entries v) ≡ some it
-  pub alone : anyBelow path (entries v) ≡ false
-  pub image : deleteOf s path stamp .image ≡ deleted (v .geometry .edition) (tidyImage s v) (slotAt (tidyImage s v) (v .geometry) (it .slot)) it stamp
+-- unused slots that were written for a run are there, by any geometry with the same index
+run-back : (x : List ℕ) (g h : Geometry) (e : Entry) → h .edition ≡ g .edition → h .indexBytes ≡ g .indexBytes → slotAt x h (e .slot) + slotBytes * e .slots ≤ length x
+    → let u : List ℕ = runCleared x h e in
+    part u (slotAt u g (e .slot)) (slotBytes * e .slots) ≡ unusedBytes (g .edition) (e .slots)
+run-back x g h e edition index room =
+    let at : ℕ = slotAt x h (e .slot) in
+    let bs : List ℕ = unusedBytes (h .edition) (e .slots) in
+    let u : List ℕ = runCleared x h e in
+    let l : length bs ≡ slotBytes * e .slots = length-unusedBytes (h .edition) (e .slots) in
+    let fits : at + length bs ≤ length x = omega (arith, l, room) in
+    let there : slotAt u g (e .slot) ≡ at = omega (arith, slot-at u g (e .slot), slot-at x h (e .slot), index, length-splice x at bs fits) in
+    subst (λ (n : ℕ). part u n (slotBytes * e .slots) ≡ unusedBytes (g .edition) (e .slots)) (sym there)
+    (subst (λ (n : ℕ). part u at n ≡ bs) l (part-splice-in x at bs fits) ∙ ap (λ (ed : Edition). unusedBytes ed (e .slots)) edition)
 
-pub delete-passed : (s : List ℕ) (v : Volume) (path : List ℕ) (stamp : ℤ) → judge s ≡ accepted v → deleteOf s path stamp .refusal ≡ 0
-    → DeletePassed s v path stamp
-unfolding deleteOf
-delete-passed s v path stamp o z =
-    let w : Written = deleteOf s path stamp in
-    let p₁ = passed-need s w z (pathGood path) 10 _ (omega arith) (passed-writable s v _ o z) in
-    let p₂ = passed-found s w z (lookup path (entries v)) 11 _ (omega arith) (p₁ .1) in
-    let p₃ = passed-need s w z (not (anyBelow path (entries v))) 14 _ (omega arith) (p₂ .2) in
-    record { named = p₁ .0; it = p₂ .0; found = p₂ .1; alone = not-true (anyBelow path (entries v)) (p₃ .0); image = passed-done s _ w (p₃ .1) }
+-- no bytes are zeros
+none-zeros : (u : List ℕ) (a n : ℕ) → n ≡ 0 → part u a n ≡ replicate n 0
+unfolding part
+none-zeros u a n e = rw e
 
--- ---- the live entry of the path, and no other
--- a test that fails together with another
-not-too : (a b : Bool) → (a && b) ≡ false → a ≡ (a && not b)
-not-too true true e = e
-not-too true false e = refl
-not-too false b e = refl
+module _ (s : List ℕ) (v : Volume) (path : List ℕ) (stamp : ℤ) (o : Opens s v) (d : DeletePassed s v path (wiped path stamp)) where
+  abbrev g : Geometry
+  g = v .geometry
 
-both-fail : (a b : Bool) → (a && b) ≡ true → false ≡ (a && not b)
-both-fail a b e = let p = and-true a b e in rw (p .0, p .1)
+  abbrev e : Entry
+  e = d .it
 
-mark : (path : List ℕ) (stamp : ℤ) (e : Entry) → isLive (deleteAt path stamp e) ≡ (isLive e && not (eqList (e .path) path))
-unfolding isLive liveAt retypedEntry
-mark path stamp e =
-    retype-by (liveAt path) deletedKind stamp (λ x. isLive x ≡ (isLive e && not (eqList (e .path) path))) e
-    (λ h. deleted-gone (e .kind) ∙ both-fail (isLive e) (eqList (e .path) path) h)
-    (λ h. not-too (isLive e) (eqList (e .path) path) h)
-
--- found among the items of any volume with these entries
-module _ (s : List ℕ) (v : Volume) (path : List ℕ) (o : Opens s v) (it : Entry) (found : lookup path (entries v) ≡ some it) where
-  pub place : Found (liveAt path) (v .items) it
-  unfolding lookup
-  place = first-split (liveAt path) (v .items) it found
-
-  pub live : isLive it ≡ true
-  live = liveAt-says path it (place .passes) .0
-
-  pub at-path : it .path ≡ path
-  at-path = liveAt-says path it (place .passes) .1
-
-  pub others : All (λ e. liveAt path e ≡ false) (entriesOf (place .post))
-  unfolding entriesOf
-  others =
-      let whole : entries v ≡ entriesOf (place .pre) ++ (it ∷ entriesOf (place .post)) = ap entriesOf (place .split) ∙ entriesOf-append (place .pre) (entry it ∷ place .post) in
-      let sound : pathsSound (entries v) ≡ true = o .paths-sound in
-      let differ = paths-says _ (rw whole at sound) .differ in
-      subst (λ (q : List ℕ). All (λ e. liveAt q e ≡ false) (entriesOf (place .post))) at-path
-      (live-alone (entriesOf (place .pre)) it (entriesOf (place .post)) differ live .1)
-
-module _ (s : List ℕ) (v : Volume) (path : List ℕ) (stamp : ℤ) (o : Opens s v) (d : DeletePassed s v path stamp) where
-  -- ---- where deleted entries are kept, its type and its stamp
-  pub image-kept : keepsDeleted (v .geometry .edition) ≡ true
-      → deleteOf s path stamp .image ≡ retyped (v .geometry .edition) s (slotAt s (v .geometry) (d .it .slot)) (deletedKind (d .it .kind)) stamp
-  unfolding deleted
-  image-kept keeps = d .image ∙ rw (tidied-kept s v o keeps) (pick-true _ _ keeps)
-
-  left-marked : keepsDeleted (v .geometry .edition) ≡ true
-      → Left (deleteOf s path stamp .image) (v .geometry .edition) (blockLength (v .geometry)) (map (marked path) (sight s v)) (unusables v)
-  unfolding marked seen
-  left-marked keeps =
-      rw (image-kept keeps)
-      (retype-left s v o keeps (liveAt path) deletedKind (deletes path) stamp (d .it) (place s v path o (d .it) (d .found)) (others s v path o (d .it) (d .found))
-      (delete-paths path (storedStamp stamp) (entries v) (d .alone) (o .paths-sound))
-      (λ k. k .live && not (eqList (k .path) path))
-      (all-of _ (λ e n. mark path (storedStamp stamp) e) (entries v)))
-
-  -- ---- else unused slots, in the tidied image
+  -- ---- the tidied image
   abbrev t : List ℕ
   t = tidyImage s v
 
   abbrev w : Volume
   w = settledVolume v
 
-  image-struck : keepsDeleted (v .geometry .edition) ≡ false
-      → deleteOf s path stamp .image ≡ splice t (slotAt t (v .geometry) (d .it .slot)) (unusedBytes (v .geometry .edition) (d .it .slots))
-  unfolding deleted
-  image-struck strikes = d .image ∙ pick-false _ _ strikes
+  o₂ : Opens t w
+  o₂ = tidied-opens s v o
 
-  module _ (strikes : keepsDeleted (v .geometry .edition) ≡ false) where
-    o₂ : Opens t w
-    o₂ = tidied-opens s v o
+  neat : tidy (w .items)
+  neat = opens-settled s v o
 
-    same : entries w ≡ entries v
-    same = settled-entries (v .items)
+  same : entries w ≡ entries v
+  same = settled-entries (v .items)
 
-    found : lookup path (entries w) ≡ some (d .it)
-    found = ap (lookup path) same ∙ d .found
+  found : lookup path (entries w) ≡ some e
+  found = ap (lookup path) same ∙ d .found
 
-    alone : anyBelow path (entries w) ≡ false
-    alone = ap (anyBelow path) same ∙ d .alone
+  alone : anyBelow path (entries w) ≡ false
+  alone = ap (anyBelow path) same ∙ d .alone
 
-    left-struck : Left (deleteOf s path stamp .image) (v .geometry .edition) (blockLength (v .geometry)) (only (λ k. not (keptAt path k)) (sight s v)) (unusables v)
-    left-struck =
-        rw (image-struck strikes, ← sight-tidied s v o, ← unusables-tidied v)
-        (strike-left t w o₂ (opens-settled s v o) path (d .it) (place t w path o₂ (d .it) found) (others t w path o₂ (d .it) found) alone)
+  placed : Regionless e ⊎ Within g e
+  placed = held t w path o₂ e found
 
-    -- it opens with the geometry that it had
-    pub opens-struck : (u : Volume) × (u .geometry ≡ v .geometry) × Opens (deleteOf s path stamp .image) u
-    opens-struck = (
-      volume t w o₂ (opens-settled s v o) path (d .it) (place t w path o₂ (d .it) found) (others t w path o₂ (d .it) found),
-      refl,
-      rw (image-struck strikes)
-          (strike-opens t w o₂ (opens-settled s v o) path (d .it) (place t w path o₂ (d .it) found) (others t w path o₂ (d .it) found) alone),
-    )
+  -- ---- its blocks are zeros
+  abbrev bytes : ℕ
+  bytes = blocksOf e * blockLength g
 
-  left : Left (deleteOf s path stamp .image) (v .geometry .edition) (blockLength (v .geometry))
-      (pick (keepsDeleted (v .geometry .edition)) (map (marked path) (sight s v)) (only (λ k. not (keptAt path k)) (sight s v))) (unusables v)
+  abbrev z : List ℕ
+  z = regionCleared t g e
+
+  kept : RegionKept t z w e
+  unfolding regionCleared
+  kept = blocks-written t w (opens-judge t w o₂) e placed (replicate bytes 0) (length-replicate bytes 0)
+
+  o₃ : Opens z w
+  o₃ = judge-opens z w (kept .opens)
+
+  -- ---- the data area is trimmed and its run is unused slots
+  abbrev h : Geometry
+  h = trimmedTo (without path (entries w)) g stamp
+
+  image-run : deleteOf s path stamp .image ≡ runCleared (putSizes z h) h e
+  unfolding deleteOf wiped
+  image-run = d .image ∙ ap (λ (es : List Entry). runCleared (putSizes z (trimmedTo (without path es) g stamp)) (trimmedTo (without path es) g stamp) e) (sym same)
+
+  image-is : deleteOf s path stamp .image ≡ image z w stamp o₃ neat (liveAt path)
+  image-is = image-run ∙ sym (cleared-live t w path o₂ e found (putSizes z h) h)
+
+  -- ---- what is seen of it
+  stays : map (seen z g) (only isNamed (without path (entries w))) ≡ map (seen t g) (only isNamed (without path (entries w)))
+  stays =
+      let others : List Entry = without path (entries w) in
+      let each : All (λ f. (apart e f ≡ true) × (Bare f × (regionGood g f ≡ true))) others =
+      all-and _ _ others (others-apart t w path o₂ e found)
+      (all-only _ _ (entries w) (all-and Bare _ (entries w) (bare-entries t w o₂) (sound-says g (entries w) (o₂ .regions-sound) .each))) in
+      map-ext _ _ (only isNamed others)
+      (all-only _ isNamed others (all-weaken _ _ (λ f q. seen-same t z g g f (others-bytes t z w e f kept (q .0) g refl (q .1 .0) (q .1 .1))) others each))
+
+  left : Left (deleteOf s path stamp .image) (g .edition) (blockLength g) (only (λ k. not (keptAt path k)) (sight s v)) (unusables v)
   left =
-      pick-by (λ told. Left (deleteOf s path stamp .image) (v .geometry .edition) (blockLength (v .geometry)) told (unusables v))
-      (keepsDeleted (v .geometry .edition)) _ _ left-marked left-struck
+      rw (image-is, ← sight-tidied s v o, ← unusables-tidied v, ← without-seen t w path, ← stays)
+      (trim-left z w stamp o₃ neat (liveAt path) (paths-strike path (entries w) alone (o₃ .paths-sound)) (extents-without path (entries w)))
+
+  -- ---- what is left of it
+  region : part (deleteOf s path stamp .image) (e .start * blockLength g) bytes ≡ replicate bytes 0
+  unfolding blocksOf regionCleared
+  region = by placed
+    where
+      by : Regionless e ⊎ Within g e → part (deleteOf s path stamp .image) (e .start * blockLength g) bytes ≡ replicate bytes 0
+      by (inl r) = none-zeros _ _ bytes (ap (λ (n : ℕ). n * blockLength g) (omega (arith, r .end)) ∙ zero-mul (blockLength g))
+      by (inr i) =
+          let inside = within-in (length t) g e (o₂ .geometry-good) i in
+          let full : length (replicate {A = ℕ} bytes 0) ≡ bytes = length-replicate bytes 0 in
+          ap (λ (u : List ℕ). part u (e .start * blockLength g) bytes) image-is
+          ∙ between z w stamp o₃ neat (liveAt path) (e .start * blockLength g) bytes (inside .low) (omega (arith, inside .order, inside .high, kept .long))
+          ∙ subst (λ (n : ℕ). part z (e .start * blockLength g) n ≡ replicate bytes 0) full
+          (part-splice-in t (e .start * blockLength g) (replicate bytes 0) (omega (arith, full, inside .order, inside .high)))
+
+  run : part (deleteOf s path stamp .image) (slotAt (deleteOf s path stamp .image) g (e .slot)) (slotBytes * e .slots) ≡ unusedBytes (g .edition) (e .slots)
+  run =
+      let f = place t w path o₂ e found in
+      let room = entry-whole t g (o₂ .geometry-good) (f .pre) e (f .post) (sym (o₂ .items-are) ∙ f .split) (subst noFault (o₂ .items-are) (ends-good t g (w .items) (o₂ .index-sound) .1)) in
+      let i : h .indexBytes ≡ g .indexBytes = index z w stamp o₃ neat (liveAt path) in
+      let l : length (putSizes z h) ≡ length z = long z w stamp o₃ neat (liveAt path) in
+      rw image-run
+      (run-back (putSizes z h) g h e (sealed z w stamp o₃ neat (liveAt path) .edition-same) i
+      (omega (arith, room, i, l, kept .long, slot-at (putSizes z h) h (e .slot), slot-at t g (e .slot))))
 
 pub delete-left : AfterDelete
-delete-left s v path stamp o z = left s v path stamp (judge-opens s v o) (delete-passed s v path stamp o z)
+unfolding deleteOf
+delete-left s v path stamp o z = left s v path stamp (judge-opens s v o) (delete-passed s v path (wiped path stamp) o z)
+
+-- THE PROMISE OF A PLAIN DELETE
+pub delete-wipes : DeleteWipes
+unfolding deleteOf
+delete-wipes s v path e stamp o f z =
+    let d = delete-passed s v path (wiped path stamp) o z in
+    let i = judge-opens s v o in
+    subst (Wiped (deleteOf s path stamp .image) (v .geometry)) (some-same (d .it) e (sym (d .found) ∙ f))
+    (record { region = region s v path stamp i d; run = run s v path stamp i d })

@@ -3,8 +3,11 @@ pub mod Tidied
 pub mod Format
 pub mod Create
 pub mod Retype
+pub mod Trim
 pub mod Strike
+pub mod Deletable
 pub mod Delete
+pub mod DeleteKeep
 pub mod Restore
 pub mod Reclaim
 pub mod Back

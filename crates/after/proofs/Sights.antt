@@ -1,20 +1,22 @@
 -- What is seen of an entry depends on its bytes; unusable regions are as they were where entries change in place, and no file or directory has one. Assumes nothing.
 use Prim.Native.Nat.{ℕ}
-use mathlib.Core.Path.{_≡_, refl, ap, ap₂, _∙_}
+use mathlib.Core.Path.{_≡_, refl, sym, ap, ap₂, _∙_}
 use mathlib.Core.Bool.{Bool, true, false, _&&_, not}
 use mathlib.Core.List.{List, _∷_, map}
 use lib.ListN.{length}
 use borrow.Author.Tests.{eqb-true}
-use Rattle.rules.specs.Lists.{only, All}
-use Rattle.rules.specs.Lists.Laws.{only-no}
+use Rattle.rules.specs.Lists.{only, eqList, All}
+use Rattle.rules.specs.Lists.Laws.{and-left, only-no}
 use Rattle.rules.specs.SuperBlock.{Geometry, blockLength}
 use Rattle.rules.specs.SuperBlock.Laws.{GoodGeometry}
-use Rattle.rules.specs.Index.{Entry, runType, deletedType, typeUnusable}
+use Rattle.rules.specs.Index.{Entry, runType, liveType, deletedType, typeUnusable}
 use Rattle.rules.specs.Regions.{Extent, extentOf, regionsSound}
 use Rattle.rules.specs.Reading.{fileBytes}
-use Rattle.rules.specs.Paths.{isDeleted}
-use Rattle.rules.specs.Writing.{undeleted}
-use Rattle.after.specs.After.{isNamed, seen, isUnusable}
+use Rattle.rules.specs.Paths.{isLive, liveAt, isDeleted}
+use Rattle.rules.specs.Refusals.{Volume, entries}
+use Rattle.rules.specs.Writing.{without, undeleted}
+use Rattle.rules.specs.History.{Kept, keptAt}
+use Rattle.after.specs.After.{isNamed, seen, sight, isUnusable}
 use Rattle.laws.proofs.Lists.Parts.{map-map, only-map, only-only, only-ext}
 use Rattle.laws.proofs.Lists.Every.{map-ext, all-of, all-weaken, all-and, all-only}
 use Rattle.laws.proofs.Entries.EntryKinds.{run-usable}
@@ -66,3 +68,23 @@ extents-only q h es = ap (map extentOf) (only-only isUnusable q es ∙ only-ext 
 pub extents-undeleted : (es : List Entry) → extentsOf (undeleted es) ≡ extentsOf es
 unfolding isUnusable isDeleted deletedType
 extents-undeleted = extents-only (λ e. not (isDeleted e)) (λ e u. ap (λ t. not (deletedType t)) (eqb-true (e .kind) typeUnusable u))
+
+-- ---- all but the path's live one
+-- two choices in either order
+and-swap : (a b : Bool) → (a && b) ≡ (b && a)
+and-swap true true = refl
+and-swap true false = refl
+and-swap false true = refl
+and-swap false false = refl
+
+pub without-seen : (s : List ℕ) (v : Volume) (path : List ℕ) → map (seen s (v .geometry)) (only isNamed (without path (entries v))) ≡ only (λ k. not (keptAt path k)) (sight s v)
+unfolding sight seen keptAt liveAt
+without-seen s v path =
+    let g : Geometry = v .geometry in
+    ap (map (seen s g)) (only-only isNamed (λ e. not (liveAt path e)) (entries v) ∙ only-ext _ _ (λ e. and-swap (not (liveAt path e)) (isNamed e)) (entries v) ∙ sym (only-only (λ e. not (liveAt path e)) isNamed (entries v)))
+    ∙ sym (only-map (λ (k : Kept). not (keptAt path k)) (seen s g) (only isNamed (entries v)))
+
+pub extents-without : (path : List ℕ) (es : List Entry) → extentsOf (without path es) ≡ extentsOf es
+unfolding isUnusable liveAt isLive liveType
+extents-without path es =
+    extents-only (λ e. not (liveAt path e)) (λ e u. ap not (and-left (isLive e) (eqList (e .path) path) (ap liveType (eqb-true (e .kind) typeUnusable u)))) es

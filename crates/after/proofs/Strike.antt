@@ -4,14 +4,16 @@ use Prim.Native.Nat.{ℕ}
 use mathlib.Core.Path.{_≡_, refl, sym, ap, _∙_}
 use mathlib.Core.Bool.{Bool, true, false, _&&_, not}
 use mathlib.Core.List.{List, [], _∷_, _++_, map}
+use mathlib.Core.Option.{some}
 use borrow.Author.Tests.{eqb-true}
 use Rattle.rules.specs.Lists.{only, eqList, All}
 use Rattle.rules.specs.Lists.Laws.{and-left}
 use Rattle.rules.specs.Fields.{splice}
 use Rattle.rules.specs.SuperBlock.{Geometry, blockLength}
 use Rattle.rules.specs.Index.{Entry, Item, entry, itemsOf, entriesOf, slotAt, unusedBytes, liveType, typeUnusable}
-use Rattle.rules.specs.Paths.{isLive, liveAt, anyBelow}
+use Rattle.rules.specs.Paths.{liveAt, lookup, anyBelow}
 use Rattle.rules.specs.Refusals.{Volume, entries}
+use Rattle.rules.specs.Writing.{without}
 use Rattle.rules.specs.Refusals.Laws.{Opens, opens-judge, opens-super}
 use Rattle.rules.specs.History.{Kept, keptAt}
 use Rattle.after.specs.After.{isNamed, seen, isUnusable, Left, sight, unusables}
@@ -27,32 +29,28 @@ use Rattle.laws.proofs.Entries.Walked.{bare-entries}
 use Rattle.laws.proofs.Entries.Paths.{paths-strike}
 use Rattle.laws.proofs.Images.Inner.{Inner, inner-between, inner-opens}
 use Rattle.laws.proofs.Images.Indexes.{cleared-inner, cleared-items}
-use Rattle.after.proofs.Sights.{seen-part, extentsOf, extents-only}
-
--- two choices in either order
-and-swap : (a b : Bool) → (a && b) ≡ (b && a)
-and-swap true true = refl
-and-swap true false = refl
-and-swap false true = refl
-and-swap false false = refl
+use Rattle.laws.proofs.Images.Live.{place, without-it}
+use Rattle.after.proofs.Sights.{seen-part, extentsOf, without-seen, extents-without}
 
 -- the entry, the only one that is live at its path
-module _ (s : List ℕ) (v : Volume) (o : Opens s v) (neat : tidy (v .items)) (path : List ℕ) (it : Entry) (place : Found (liveAt path) (v .items) it)
-    (others : All (λ e. liveAt path e ≡ false) (entriesOf (place .post))) where
+module _ (s : List ℕ) (v : Volume) (o : Opens s v) (neat : tidy (v .items)) (path : List ℕ) (it : Entry) (found : lookup path (entries v) ≡ some it) where
   abbrev g : Geometry
   g = v .geometry
 
+  abbrev spot : Found (liveAt path) (v .items) it
+  spot = place s v path o it found
+
   abbrev pre : List Item
-  pre = place .pre
+  pre = spot .pre
 
   abbrev post : List Item
-  post = place .post
+  post = spot .post
 
   here : itemsOf s g ≡ pre ++ (entry it ∷ post)
-  here = sym (o .items-are) ∙ place .split
+  here = sym (o .items-are) ∙ spot .split
 
   before : tidy (pre ++ (entry it ∷ post))
-  before = rw (place .split) at neat
+  before = rw (spot .split) at neat
 
   abbrev free : List Item
   free = unusedFrom (it .slot) (it .slots)
@@ -79,30 +77,24 @@ module _ (s : List ℕ) (v : Volume) (o : Opens s v) (neat : tidy (v .items)) (p
   abbrev stays : Entry → Bool
   stays e = not (liveAt path e)
 
-  entries-after : entriesOf after ≡ only stays (entries v)
+  entries-after : entriesOf after ≡ without path (entries v)
   unfolding entriesOf
   entries-after =
       entriesOf-append pre (free ++ post)
       ∙ ap (λ (es : List Entry). entriesOf pre ++ es) (entriesOf-append free post ∙ ap (λ (es : List Entry). es ++ entriesOf post) (unusedFrom-entries (it .slot) (it .slots)))
-      ∙ sym
-      (only-but stays (entriesOf pre) it (entriesOf post) (all-weaken _ _ (λ e k. ap not k) (entriesOf pre) (none-passes (liveAt path) _ (place .before))) (ap not (place .passes))
-      (all-weaken _ _ (λ e k. ap not k) (entriesOf post) others))
-      ∙ ap (only stays) (sym (ap entriesOf (place .split) ∙ entriesOf-append pre (entry it ∷ post)))
+      ∙ sym (without-it s v path o it found)
 
   -- ---- what is seen of it
   sees : sight image volume ≡ only (λ k. not (keptAt path k)) (sight s v)
-  unfolding sight seen keptAt liveAt
+  unfolding sight
   sees =
       ap (λ es. map (seen image g) (only isNamed es)) entries-after
       ∙ seen-part s image g g (o .geometry-good) (inner-between s image g (o .geometry-good) inner) refl stays (entries v) (bare-entries s v o) (o .regions-sound)
-      ∙ ap (map (seen s g)) (only-only isNamed stays (entries v) ∙ only-ext _ _ (λ e. and-swap (stays e) (isNamed e)) (entries v) ∙ sym (only-only stays isNamed (entries v)))
-      ∙ sym (only-map (λ (k : Kept). not (keptAt path k)) (seen s g) (only isNamed (entries v)))
+      ∙ without-seen s v path
 
   unusable : unusables volume ≡ unusables v
-  unfolding unusables isUnusable liveAt isLive liveType
-  unusable =
-      ap extentsOf entries-after
-      ∙ extents-only stays (λ e u. ap not (and-left (isLive e) (eqList (e .path) path) (ap liveType (eqb-true (e .kind) typeUnusable u)))) (entries v)
+  unfolding unusables
+  unusable = ap extentsOf entries-after ∙ extents-without path (entries v)
 
   module _ (alone : anyBelow path (entries v) ≡ false) where
     pub strike-opens : Opens image volume

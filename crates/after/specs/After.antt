@@ -16,7 +16,7 @@ use Rattle.rules.specs.Names.{pathGood}
 use Rattle.rules.specs.Paths.{isLive, deletedAt, lookup}
 use Rattle.rules.specs.Refusals.{accepted, Volume, entries, judge}
 use Rattle.rules.specs.Reading.{fileBytes}
-use Rattle.rules.specs.Writing.{New, formatOf, createOf, liveKind, deleteOf, restoreOf, reclaimOf}
+use Rattle.rules.specs.Writing.{New, formatOf, createOf, liveKind, deleteOf, deleteKeepOf, restoreOf, reclaimOf}
 use Rattle.rules.specs.Writing.Laws.{refusedWrite, wrote}
 use Rattle.rules.specs.History.{Kept, keptOf, keptAt, marked, revived}
 
@@ -72,7 +72,14 @@ AfterDelete =
     (s : List ℕ) (v : Volume) (path : List ℕ) (stamp : ℤ)
     → judge s ≡ accepted v
     → deleteOf s path stamp .refusal ≡ 0
-    → Left (deleteOf s path stamp .image) (v .geometry .edition) (blockLength (v .geometry))
+    → Left (deleteOf s path stamp .image) (v .geometry .edition) (blockLength (v .geometry)) (only (λ k. not (keptAt path k)) (sight s v)) (unusables v)
+
+abbrev pub AfterDeleteKeep : Type 0
+AfterDeleteKeep =
+    (s : List ℕ) (v : Volume) (path : List ℕ) (stamp : ℤ)
+    → judge s ≡ accepted v
+    → deleteKeepOf s path stamp .refusal ≡ 0
+    → Left (deleteKeepOf s path stamp .image) (v .geometry .edition) (blockLength (v .geometry))
     (pick (keepsDeleted (v .geometry .edition)) (map (marked path) (sight s v)) (only (λ k. not (keptAt path k)) (sight s v)))
     (unusables v)
 
@@ -91,16 +98,16 @@ AfterReclaim =
     → Left (reclaimOf s stamp .image) (v .geometry .edition) (blockLength (v .geometry)) (only (λ k. k .live) (sight s v)) (unusables v)
 
 -- ---- two calls, one after the other
--- a delete, then a restore with the stamp that the entry had: the image is what it was, byte for byte; or, where another entry of the path had
--- been deleted before, 19. Where deleted entries are not kept, 11
+-- a delete that keeps, then a restore with the stamp that the entry had: the image is what it was, byte for byte; or, where another entry of the path
+-- had been deleted before, 19. Where deleted entries are not kept, 11
 abbrev pub DeletedRestored : Type 0
 DeletedRestored =
     (s : List ℕ) (v : Volume) (path : List ℕ) (e : Entry) (stamp : ℤ)
     → Bytes s
     → judge s ≡ accepted v
     → lookup path (entries v) ≡ some e
-    → deleteOf s path stamp .refusal ≡ 0
-    → let t : List ℕ = deleteOf s path stamp .image in
+    → deleteKeepOf s path stamp .refusal ≡ 0
+    → let t : List ℕ = deleteKeepOf s path stamp .image in
     restoreOf t path (e .stamp)
     ≡ pick (keepsDeleted (v .geometry .edition)) (pick (any (deletedAt path) (entries v)) (refusedWrite t 19) (wrote s)) (refusedWrite t 11)
 

@@ -11,7 +11,7 @@ use Rattle.rules.specs.SuperBlock.{geometryOf}
 use Rattle.rules.specs.Index.{itemsOf}
 use Rattle.rules.specs.Comparing.{looked, findLooked}
 use Rattle.rules.specs.Writing.{newFile}
-use Rattle.rules.specs.History.{format, create, delete, run}
+use Rattle.rules.specs.History.{format, create, deleteKeep, run}
 use Rattle.rules.specs.Text.{text}
 use Rattle.cases.proofs.Computing.{everything}
 
@@ -60,7 +60,7 @@ pub three-searched :
 unfolding everything
 three-searched = (refl, refl, refl, refl, refl)
 
--- the name of a deleted file is left alone
-pub deleted-searched : searched (run three (delete (text "ba") (pos 5) ∷ [])) "aa" ≡ 6
+-- the name of a deleted file that was kept is left alone
+pub deleted-searched : searched (run three (deleteKeep (text "ba") (pos 5) ∷ [])) "aa" ≡ 6
 unfolding everything
 deleted-searched = refl

@@ -12,7 +12,7 @@ use Rattle.rules.specs.Refusals.{need, needFound, andThen, magicGood, editionOf
 use Rattle.rules.specs.Outcome.{done, conclude, onVolume, noVolume, noEntry, numbersOf, noneListed}
 use Rattle.rules.specs.Reading.{volumeNumbers, openOf, findOf, fileBytes, readOf, listed, listOf}
 use Rattle.rules.specs.Records.{numbersBytes, recordBytes, recordOf, stopAt, withRecord, recordStep, recordsFrom, noRecords, recordsOutcome, listAllOf}
-use Rattle.rules.specs.Writing.{tidied, freshGeometry, formatted, formatOf, kindOf, bytesOf, nearestLive, unusedFirst, startsUnused, itemSlot, lowestUnused, mayGrow, grownPlace, placeFrom, isAbove, itemsBefore, placesFor, placeRun, placeFile, newEntry, putMarker, created, createOf, deletedKind, deleted, deleteOf, liveKind, restored, restoreOf, cleared, leastEnd, reclaimOf}
+use Rattle.rules.specs.Writing.{tidied, freshGeometry, formatted, formatOf, kindOf, bytesOf, nearestLive, unusedFirst, startsUnused, itemSlot, lowestUnused, mayGrow, grownPlace, placeFrom, isAbove, itemsBefore, placesFor, placeRun, placeFile, newEntry, putMarker, created, createOf, regionCleared, onDeletable, wiped, deleteOf, deletedKind, deleted, deleteKeepOf, liveKind, restored, restoreOf, cleared, leastEnd, reclaimOf}
 use Rattle.rules.specs.History.{passed, step, nothing, keptOf, keptAt, marked, revived, markedIn, struckIn, fed, feed, run, told}
 use Rattle.rules.specs.Text.{digit, digits, decimal, widened}
 use Rattle.rules.specs.Dates.{floorDiv, floorMod, divides, leapYear, yearLength, monthLength, countOff, yearOff, monthOff, dateIn, dateOf, secondsOf, daysOf, secondOfDay, momentOf, yearText, twoDigits, momentText}
@@ -45,8 +45,8 @@ unfolding
     volumeNumbers openOf findOf fileBytes readOf listed listOf
     numbersBytes recordBytes recordOf stopAt withRecord recordStep recordsFrom noRecords recordsOutcome listAllOf
     tidied freshGeometry formatted formatOf kindOf bytesOf nearestLive unusedFirst startsUnused itemSlot lowestUnused mayGrow
-    grownPlace placeFrom isAbove itemsBefore placesFor placeRun placeFile newEntry putMarker created createOf deletedKind deleted
-    deleteOf liveKind restored restoreOf cleared leastEnd reclaimOf
+    grownPlace placeFrom isAbove itemsBefore placesFor placeRun placeFile newEntry putMarker created createOf regionCleared
+    onDeletable wiped deleteOf deletedKind deleted deleteKeepOf liveKind restored restoreOf cleared leastEnd reclaimOf
     passed step nothing keptOf keptAt marked revived markedIn struckIn fed feed run told
     digit digits decimal widened
     floorDiv floorMod divides leapYear yearLength monthLength countOff yearOff monthOff dateIn dateOf secondsOf daysOf secondOfDay

@@ -16,7 +16,7 @@ use Rattle.rules.specs.Refusals.Laws.{one-edition}
 use Rattle.rules.specs.Outcome.{done}
 use Rattle.rules.specs.Reading.{openOf, findOf, listOf, readOf}
 use Rattle.rules.specs.Writing.{newFile, newDirectory, formatOf}
-use Rattle.rules.specs.History.{Call, format, openVolume, find, list, create, delete, restore, reclaim, run, told, nothing}
+use Rattle.rules.specs.History.{Call, format, openVolume, find, list, create, delete, deleteKeep, restore, reclaim, run, told, nothing}
 use Rattle.rules.specs.Text.{text}
 use Rattle.rules.specs.Listing.{listingOf}
 use Rattle.cases.proofs.Computing.{everything}
@@ -214,13 +214,21 @@ pub directory-first : findOf (splice filled 832 (directorySlot ++ fileSlot)) (te
 unfolding everything
 directory-first = refl
 
--- ---- a delete writes unused slots at once, and nothing else: no stamp, no wiping, no trimming
+-- ---- a delete that keeps writes unused slots at once, and nothing else: no stamp, no wiping, no trimming
 abbrev emptied : List ℕ
-emptied = run filled (delete (text "d/f") (pos 8) ∷ [])
+emptied = run filled (deleteKeep (text "d/f") (pos 8) ∷ [])
 
 pub emptied-bytes : emptied ≡ splice filled 832 unusedSlot
 unfolding everything
 emptied-bytes = eqList-true emptied (splice filled 832 unusedSlot) refl
+
+-- the plain one also fills its block with zeros and trims the data area, with its stamp
+abbrev wipedOut : List ℕ
+wipedOut = splice (splice (splice filled 832 unusedSlot) 0x18E (8 ∷ blank 15)) 512 (blank 256)
+
+pub wiped-bytes : run filled (delete (text "d/f") (pos 8) ∷ []) ≡ wipedOut
+unfolding everything
+wiped-bytes = eqList-true (run filled (delete (text "d/f") (pos 8) ∷ [])) wipedOut refl
 
 -- a directory goes after what is below it; of what is deleted nothing is found, however often it is asked for
 pub emptied-refusals :
@@ -261,7 +269,7 @@ pub emptied-told :
     format 0x1A 256 2 [] (pos 5)
     ∷ create newDirectory (text "d") (pos 6)
     ∷ create (newFile (text "yes")) (text "d/f") (pos 7)
-    ∷ delete (text "d/f") (pos 8)
+    ∷ deleteKeep (text "d/f") (pos 8)
     ∷ restore (text "d/f") (pos 9)
     ∷ reclaim (pos 10)
     ∷ [])
@@ -359,13 +367,14 @@ idle =
     ∷ list 0 []
     ∷ find (text "a")
     ∷ delete (text "a") (pos 8)
+    ∷ deleteKeep (text "a") (pos 8)
     ∷ restore (text "a") (pos 8)
     ∷ create newDirectory (text "a/") (pos 8)
     ∷ create newDirectory (text "a/b") (pos 8)
     ∷ format 0x11 256 2 [] (pos 8)
     ∷ []
 
-pub littered-refusals : refusals littered idle ≡ 0 ∷ 0 ∷ 11 ∷ 11 ∷ 11 ∷ 10 ∷ 13 ∷ 5 ∷ []
+pub littered-refusals : refusals littered idle ≡ 0 ∷ 0 ∷ 11 ∷ 11 ∷ 11 ∷ 11 ∷ 10 ∷ 13 ∷ 5 ∷ []
 unfolding everything refusals refusalOf
 littered-refusals = refl
 

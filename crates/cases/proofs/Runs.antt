@@ -8,13 +8,13 @@ use lib.ListN.{length, drop, replicate}
 use lib.IntN.{pos, negsuc}
 use Rattle.rules.specs.Lists.{pick, eqList}
 use Rattle.rules.specs.Fields.{splice}
-use Rattle.rules.specs.Editions.{edition10}
-use Rattle.rules.specs.Index.{typeFile, typeDirectory}
+use Rattle.rules.specs.Editions.{edition10, edition110}
+use Rattle.rules.specs.Index.{typeFile, typeDirectory, unusedBytes}
 use Rattle.rules.specs.Outcome.{done}
 use Rattle.rules.specs.Reading.{openOf, findOf, listOf, readOf}
 use Rattle.rules.specs.Records.{listAllOf}
-use Rattle.rules.specs.Writing.{newFile, newDirectory, formatOf, createOf, deleteOf, restoreOf, reclaimOf}
-use Rattle.rules.specs.History.{Call, format, openVolume, find, list, listAll, read, create, delete, restore, reclaim, step, run, told, nothing}
+use Rattle.rules.specs.Writing.{newFile, newDirectory, formatOf, createOf, deleteOf, deleteKeepOf, restoreOf, reclaimOf}
+use Rattle.rules.specs.History.{Call, format, openVolume, find, list, listAll, read, create, delete, deleteKeep, restore, reclaim, step, run, told, nothing}
 use Rattle.rules.specs.Text.{text, joined}
 use Rattle.rules.specs.Listing.{listingOf}
 use Rattle.rules.specs.Report.{unread, image, reportOf, outputOf, newline, namesOf, nameOfFile}
@@ -31,6 +31,7 @@ refusalOf s (listAll slot out) = listAllOf s slot out .refusal
 refusalOf s (read path out) = readOf s path out .refusal
 refusalOf s (create new path stamp) = createOf s new path stamp .refusal
 refusalOf s (delete path stamp) = deleteOf s path stamp .refusal
+refusalOf s (deleteKeep path stamp) = deleteKeepOf s path stamp .refusal
 refusalOf s (restore path stamp) = restoreOf s path stamp .refusal
 refusalOf s (reclaim stamp) = reclaimOf s stamp .refusal
 
@@ -114,17 +115,35 @@ pub comeAndGo-bytes :
 unfolding everything
 comeAndGo-bytes = refl
 
--- ---- what was deleted comes back until it is reclaimed: with the old stamp the image is what it was
+-- ---- a file of a block, deleted by each call
 abbrev notice : List Call
 notice = formatSmall ∷ create (newFile (text "Closed")) (text "n") (pos 9) ∷ []
 
-pub same-afternoon : run (blank 1_536) (notice ++ (delete (text "n") (pos 10) ∷ restore (text "n") (pos 9) ∷ [])) ≡ run (blank 1_536) notice
+-- nine bytes change where it is kept: the type and the stamp
+pub notice-kept : run (blank 1_536) (notice ++ (deleteKeep (text "n") (pos 10) ∷ [])) ≡ splice (splice (run (blank 1_536) notice) 1_408 (0x1A ∷ [])) 1_410 (10 ∷ blank 7)
+unfolding everything
+notice-kept = refl
+
+-- where it is wiped, all is as in a fresh volume but for the grown index and the stamp of the data area that shrank
+pub notice-wiped :
+    run (blank 1_536) (notice ++ (delete (text "n") (pos 10) ∷ []))
+    ≡ splice (splice (splice small 0x194 (10 ∷ [])) 0x1A4 (192 ∷ [])) 1_344 ((0x02 ∷ blank 63) ++ (0x10 ∷ blank 63))
+unfolding everything
+notice-wiped = refl
+
+-- an unused slot: its type, in edition 1.10 its sum, and zeros
+pub unused-slots : (unusedBytes edition10 1 ≡ 0x10 ∷ blank 63) × (unusedBytes edition110 1 ≡ 0x10 ∷ 0xF0 ∷ blank 62)
+unfolding everything
+unused-slots = (refl, refl)
+
+-- ---- what was kept comes back until it is reclaimed: with the old stamp the image is what it was
+pub same-afternoon : run (blank 1_536) (notice ++ (deleteKeep (text "n") (pos 10) ∷ restore (text "n") (pos 9) ∷ [])) ≡ run (blank 1_536) notice
 unfolding everything
 same-afternoon = refl
 
 -- restored, it is not given back at a reclaim; deleted again, it is
 pub notice-told :
-    told (blank 1_536) nothing (notice ++ (delete (text "n") (pos 10) ∷ restore (text "n") (pos 15) ∷ reclaim (pos 16) ∷ []))
+    told (blank 1_536) nothing (notice ++ (deleteKeep (text "n") (pos 10) ∷ restore (text "n") (pos 15) ∷ reclaim (pos 16) ∷ []))
     ≡ record {
       edition = edition10;
       blockBytes = 512;
@@ -136,10 +155,17 @@ unfolding everything
 notice-told = refl
 
 pub notice-struck :
-    told (blank 1_536) nothing (notice ++ (delete (text "n") (pos 10) ∷ restore (text "n") (pos 15) ∷ delete (text "n") (pos 16) ∷ reclaim (pos 17) ∷ []))
+    told (blank 1_536) nothing (notice ++ (deleteKeep (text "n") (pos 10) ∷ restore (text "n") (pos 15) ∷ deleteKeep (text "n") (pos 16) ∷ reclaim (pos 17) ∷ []))
     ≡ record { edition = edition10; blockBytes = 512; kept = []; granted = 1; givenBack = 1 }
 unfolding everything
 notice-struck = refl
+
+-- wiped, it is given back at once
+pub notice-given-back :
+    told (blank 1_536) nothing (notice ++ (delete (text "n") (pos 10) ∷ []))
+    ≡ record { edition = edition10; blockBytes = 512; kept = []; granted = 1; givenBack = 1 }
+unfolding everything
+notice-given-back = refl
 
 -- 11 of a live path and of none, 10, then 12 where it is live again, 19 of a file and a directory, 11 once both are reclaimed
 pub restore-refusals :
@@ -147,10 +173,10 @@ pub restore-refusals :
     restore (text "n") (pos 10)
     ∷ restore (text "m") (pos 10)
     ∷ restore (text "n/") (pos 10)
-    ∷ delete (text "n") (pos 10)
+    ∷ deleteKeep (text "n") (pos 10)
     ∷ create newDirectory (text "n") (pos 11)
     ∷ restore (text "n") (pos 12)
-    ∷ delete (text "n") (pos 13)
+    ∷ deleteKeep (text "n") (pos 13)
     ∷ restore (text "n") (pos 14)
     ∷ reclaim (pos 15)
     ∷ restore (text "n") (pos 16)
@@ -159,14 +185,30 @@ pub restore-refusals :
 unfolding everything refusals refusalOf
 restore-refusals = refl
 
+-- of what was wiped nothing comes back; an older entry of the path that was kept does
+pub wiped-refusals :
+    refusals (run (blank 1_536) notice) (
+    delete (text "n") (pos 10)
+    ∷ restore (text "n") (pos 11)
+    ∷ create (newFile (text "Open")) (text "n") (pos 12)
+    ∷ deleteKeep (text "n") (pos 13)
+    ∷ create newDirectory (text "n") (pos 14)
+    ∷ delete (text "n") (pos 15)
+    ∷ restore (text "n") (pos 16)
+    ∷ find (text "n")
+    ∷ [])
+    ≡ 0 ∷ 11 ∷ 0 ∷ 0 ∷ 0 ∷ 0 ∷ 0 ∷ 0 ∷ []
+unfolding everything refusals refusalOf
+wiped-refusals = refl
+
 -- a directory comes back without what was below it, which is 13 before
 pub restore-directory :
     refusals (blank 1_536) (
     formatSmall
     ∷ create newDirectory (text "d") (pos 6)
     ∷ create (newFile []) (text "d/f") (pos 7)
-    ∷ delete (text "d/f") (pos 8)
-    ∷ delete (text "d") (pos 9)
+    ∷ deleteKeep (text "d/f") (pos 8)
+    ∷ deleteKeep (text "d") (pos 9)
     ∷ restore (text "d/f") (pos 10)
     ∷ restore (text "d") (pos 11)
     ∷ find (text "d/f")
@@ -177,7 +219,7 @@ pub restore-directory :
 unfolding everything refusals refusalOf
 restore-directory = refl
 
--- ---- the last block: where a file holds it the index cannot grow into it, until the file is deleted and reclaimed
+-- ---- the last block: where a file holds it the index cannot grow into it, until the file is wiped, or kept and reclaimed
 abbrev empty : String → Call
 empty path = create (newFile []) (text path) (pos 7)
 
@@ -191,7 +233,7 @@ pub last-block :
     ∷ empty "d"
     ∷ empty "e"
     ∷ empty "f"
-    ∷ delete (text "big") (pos 9)
+    ∷ deleteKeep (text "big") (pos 9)
     ∷ empty "f"
     ∷ reclaim (pos 11)
     ∷ empty "f"
@@ -200,13 +242,30 @@ pub last-block :
 unfolding everything refusals refusalOf
 last-block = refl
 
--- ---- a deleted file's blocks are not free until they are reclaimed
+pub last-block-wiped :
+    refusals (blank 1_536) (
+    formatSmall
+    ∷ create (newFile (replicate 512 0x61)) (text "big") (pos 6)
+    ∷ empty "a"
+    ∷ empty "b"
+    ∷ empty "c"
+    ∷ empty "d"
+    ∷ empty "e"
+    ∷ empty "f"
+    ∷ delete (text "big") (pos 9)
+    ∷ empty "f"
+    ∷ [])
+    ≡ 0 ∷ 0 ∷ 0 ∷ 0 ∷ 0 ∷ 0 ∷ 0 ∷ 15 ∷ 0 ∷ 0 ∷ []
+unfolding everything refusals refusalOf
+last-block-wiped = refl
+
+-- ---- a kept file's blocks are not free until they are reclaimed, a wiped one's are at once
 pub held-blocks :
     refusals (blank 3_072) (
     formatSmall
     ∷ create (newFile (replicate 2_048 0x61)) (text "big") (pos 6)
     ∷ create (newFile (text "b")) (text "a") (pos 7)
-    ∷ delete (text "big") (pos 8)
+    ∷ deleteKeep (text "big") (pos 8)
     ∷ create (newFile (text "b")) (text "a") (pos 9)
     ∷ reclaim (pos 10)
     ∷ create (newFile (text "b")) (text "a") (pos 11)
@@ -214,6 +273,18 @@ pub held-blocks :
     ≡ 0 ∷ 0 ∷ 16 ∷ 0 ∷ 16 ∷ 0 ∷ 0 ∷ []
 unfolding everything refusals refusalOf
 held-blocks = refl
+
+pub wiped-blocks :
+    refusals (blank 3_072) (
+    formatSmall
+    ∷ create (newFile (replicate 2_048 0x61)) (text "big") (pos 6)
+    ∷ create (newFile (text "b")) (text "a") (pos 7)
+    ∷ delete (text "big") (pos 8)
+    ∷ create (newFile (text "b")) (text "a") (pos 9)
+    ∷ [])
+    ≡ 0 ∷ 0 ∷ 16 ∷ 0 ∷ 0 ∷ []
+unfolding everything refusals refusalOf
+wiped-blocks = refl
 
 -- ---- a file lies below the ceiling block after the growth: a name that takes five slots leaves no block
 pub after-growth :
@@ -271,10 +342,11 @@ pub empty-image :
     ∷ read [] []
     ∷ create newDirectory [] (pos 0)
     ∷ delete [] (pos 0)
+    ∷ deleteKeep [] (pos 0)
     ∷ restore [] (pos 0)
     ∷ reclaim (pos 0)
     ∷ [])
-    ≡ replicate 9 1
+    ≡ replicate 10 1
 unfolding everything refusals refusalOf
 empty-image = refl
 
@@ -338,12 +410,19 @@ pub logout-refusals : refusals token logout ≡ 14 ∷ 0 ∷ 0 ∷ []
 unfolding everything refusals refusalOf
 logout-refusals = refl
 
--- a deleted file's block is held until it is reclaimed
-pub logout-listing : listingOf (run token logout) ≡ text "TERM7\nlive 0 held 1\n"
+pub logout-listing : listingOf (run token logout) ≡ text "TERM7\nlive 0 held 0\n"
 unfolding everything
 logout-listing = refl
 
-pub reclaimed-listing : listingOf (run token (logout ++ (reclaim (pos 4) ∷ []))) ≡ text "TERM7\nlive 0 held 0\n"
+-- a kept file's block is held until it is reclaimed
+abbrev mended : List Call
+mended = deleteKeep (text "session/verified") (pos 2) ∷ deleteKeep (text "session") (pos 3) ∷ []
+
+pub kept-listing : listingOf (run token mended) ≡ text "TERM7\nlive 0 held 1\n"
+unfolding everything
+kept-listing = refl
+
+pub reclaimed-listing : listingOf (run token (mended ++ (reclaim (pos 4) ∷ []))) ≡ text "TERM7\nlive 0 held 0\n"
 unfolding everything
 reclaimed-listing = refl
 
@@ -442,11 +521,12 @@ pub later-version :
     ∷ read (text "d") []
     ∷ create newDirectory [] (pos 3)
     ∷ delete (text "none") (pos 4)
+    ∷ deleteKeep (text "none") (pos 4)
     ∷ restore (text "none") (pos 4)
     ∷ reclaim (pos 5)
     ∷ format 0x10 512 1 [] (pos 6)
     ∷ [])
-    ≡ 0 ∷ 0 ∷ 0 ∷ 17 ∷ 9 ∷ 9 ∷ 9 ∷ 9 ∷ 0 ∷ []
+    ≡ 0 ∷ 0 ∷ 0 ∷ 17 ∷ 9 ∷ 9 ∷ 9 ∷ 9 ∷ 9 ∷ 0 ∷ []
 unfolding everything refusals refusalOf
 later-version = refl
 
@@ -482,8 +562,8 @@ pub other-reports :
     (reportOf [] ≡ text "file 0 0 0\ndeleted-file 0 0 0\ndir 0 0 0\ndeleted-dir 0 0 0\nunusable 0 0 0\nunused 0 0 0\nrefused\nunread 0\n")
     × (reportOf (unread ∷ image (blank 65_537) ∷ image (blank 512) ∷ unread ∷ image [] ∷ [])
     ≡ text "file 0 0 0\ndeleted-file 0 0 0\ndir 0 0 0\ndeleted-dir 0 0 0\nunusable 0 0 0\nunused 0 0 0\nrefused 1:2 2:1\nunread 2\n")
-    × (reportOf (image (run token logout) ∷ []) ≡ text "file 0 0 0\ndeleted-file 1 1 3\ndir 0 0 0\ndeleted-dir 1 0 0\nunusable 0 0 0\nunused 0 0 0\nrefused\nunread 0\n")
-    × (reportOf (image (run token (logout ++ (reclaim (pos 4) ∷ []))) ∷ [])
+    × (reportOf (image (run token mended) ∷ []) ≡ text "file 0 0 0\ndeleted-file 1 1 3\ndir 0 0 0\ndeleted-dir 1 0 0\nunusable 0 0 0\nunused 0 0 0\nrefused\nunread 0\n")
+    × (reportOf (image (run token (mended ++ (reclaim (pos 4) ∷ []))) ∷ [])
     ≡ text "file 0 0 0\ndeleted-file 0 0 0\ndir 0 0 0\ndeleted-dir 0 0 0\nunusable 0 0 0\nunused 2 0 0\nrefused\nunread 0\n")
 unfolding everything
 other-reports = (refl, refl, refl, refl)

@@ -7,7 +7,7 @@ use lib.IntN.{ℤ}
 use Rattle.rules.specs.Outcome.{Outcome, VolumeNumbers, EntryNumbers, ListedNumbers}
 use Rattle.rules.specs.Reading.{openOf, findOf, listOf, readOf}
 use Rattle.rules.specs.Records.{RecordsNumbers, listAllOf}
-use Rattle.rules.specs.Writing.{Written, New, newFile, newDirectory, formatOf, createOf, deleteOf, restoreOf, reclaimOf}
+use Rattle.rules.specs.Writing.{Written, New, newFile, newDirectory, formatOf, createOf, deleteOf, deleteKeepOf, restoreOf, reclaimOf}
 use Rattle.rules.specs.Listing.{textOf}
 use Rattle.rules.specs.Report.{countImage, reportTextOf}
 use Rattle.contracts.specs.declared.Volume.{Volume}
@@ -63,9 +63,9 @@ recordsView s after r = record { refusal = r .refusal; answer = recordsAnswer r;
 abbrev pub writtenAs : ℕ → List ℕ → Written
 writtenAs r t = record { refusal = r; answer = tt; image = t; output = [] }
 
--- ---- sfs_api: the number of the interface, raised whenever a struct or an argument changes
+-- ---- sfs_api: the number of the interface, raised whenever a struct, an argument or what a call does changes
 abbrev pub interface : ℕ
-interface = 1
+interface = 2
 
 abbrev pub TellsApi : ℕ → Type 0
 TellsApi r = r ≡ interface
@@ -104,9 +104,13 @@ CreatesFile s path bytes stamp r t = Creates s (newFile bytes) path stamp r t
 abbrev pub CreatesDirectory : List ℕ → List ℕ → ℤ → ℕ → List ℕ → Type 0
 CreatesDirectory s path stamp r t = Creates s newDirectory path stamp r t
 
--- ---- sfs_delete: the path's live entry is marked deleted, or its slots are unused and its blocks free
+-- ---- sfs_delete: the path's live entry is gone, its blocks are zeros and its slots unused, and the data area has its least size
 abbrev pub Deletes : List ℕ → List ℕ → ℤ → ℕ → List ℕ → Type 0
 Deletes s path stamp r t = writtenAs r t ≡ deleteOf s path stamp
+
+-- ---- sfs_delete_keep: the path's live entry is marked deleted, or its slots are unused and its blocks free
+abbrev pub DeletesKeeping : List ℕ → List ℕ → ℤ → ℕ → List ℕ → Type 0
+DeletesKeeping s path stamp r t = writtenAs r t ≡ deleteKeepOf s path stamp
 
 -- ---- sfs_restore: the path's deleted entry is live again
 abbrev pub Restores : List ℕ → List ℕ → ℤ → ℕ → List ℕ → Type 0

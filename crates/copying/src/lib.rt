@@ -1,8 +1,9 @@
 // Bytes copied into a lent slice, zeros behind them, and the places that lend a part of an image for writing and reading.
 
+use units::Block;
 use units::Offset;
 ghost use mathlib.Core.Path.{_≡_};
-ghost use Prim.Native.Nat.{_+_, _-_, _≤_, _<_};
+ghost use Prim.Native.Nat.{_+_, _-_, _*_, _≤_, _<_};
 ghost use lib.ListN.{length, replicate};
 ghost use Rattle.rules.specs.Lists.{padded, part};
 ghost use Rattle.rules.specs.Fields.{splice};
@@ -48,6 +49,16 @@ pub fn write_part(img: &mut [u8], a: Offset, e: Offset, src: &[u8])
     let start = a.index();
     let end = e.index();
     copy_and_zero(&mut img[start..end], src)
+}
+
+// The blocks of `len` bytes from `start` up to `end` become src, with zeros behind it: a region is lent on as a part of the image.
+pub fn write_blocks(img: &mut [u8], len: u64, start: Block, end: Block, src: &[u8])
+    requires { ⌜ (length (now img) ≤ 16_777_216) × (start .0 ≤ end .0) × (end .0 * len ≤ length (now img)) × (length (now src) ≤ (end .0 - start .0) * len) ⌝ }
+    ensures { λ _. ⌜ now (img .exit) ≡ splice (now (img .entry)) (start .0 * len) (padded (now (src .entry)) ((end .0 - start .0) * len)) ⌝ }
+{
+    let first = start.offset(len);
+    let past = end.offset(len);
+    write_part(img, first, past, src)
 }
 
 // The first n bytes of out become those of img from `at` on.

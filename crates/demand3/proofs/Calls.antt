@@ -9,11 +9,12 @@ use lib.IntN.{ℤ}
 use borrow.Author.Tests.{eqb-false}
 use Rattle.rules.specs.Editions.{Edition}
 use Rattle.rules.specs.Paths.{nextLive}
-use Rattle.rules.specs.Refusals.{Verdict, refused, accepted, need, needFound, andThen, entries}
+use Rattle.rules.specs.Index.{Entry}
+use Rattle.rules.specs.Refusals.{Verdict, refused, accepted, need, needFound, andThen, Volume, entries}
 use Rattle.rules.specs.Outcome.{Outcome, done, conclude, onVolume}
 use Rattle.rules.specs.Reading.{openOf, findOf, readOf, listed, listOf}
 use Rattle.rules.specs.Records.{recordsOutcome, listAllOf}
-use Rattle.rules.specs.Writing.{New, formatOf, createOf, deleteOf, restoreOf, reclaimOf}
+use Rattle.rules.specs.Writing.{New, formatOf, createOf, onDeletable, wiped, deleteOf, deleted, deleteKeepOf, restoreOf, reclaimOf}
 
 -- what holds of the outcome, where there is one
 Each : {A : Type 0} → (A → Type 0) → Verdict A → Type 0
@@ -115,15 +116,26 @@ create-refused s new path stamp =
     (each-need Zero _ _ _
     (each-found Zero _ _ _ (λ p. each-found Zero _ _ _ (λ start. each-accepted Zero _ refl))))))))
 
-pub delete-refused : (s path : List ℕ) (stamp : ℤ)
-    → eqb (deleteOf s path stamp .refusal) 0 ≡ false → deleteOf s path stamp .image ≡ s
-unfolding deleteOf onVolume done
-delete-refused s path stamp =
+-- both deletes, whatever they write
+deletable-image : (s path : List ℕ) (write : List ℕ → Volume → Entry → List ℕ)
+    → eqb (onDeletable s path write .refusal) 0 ≡ false → onDeletable s path write .image ≡ s
+unfolding onDeletable onVolume done
+deletable-image s path write =
     refused-image _ s _ _
     (each-then Zero _ _ (λ v.
     each-need Zero _ _ _
     (each-need Zero _ _ _
     (each-found Zero _ _ _ (λ e. each-need Zero _ _ _ (each-accepted Zero _ refl))))))
+
+pub delete-refused : (s path : List ℕ) (stamp : ℤ)
+    → eqb (deleteOf s path stamp .refusal) 0 ≡ false → deleteOf s path stamp .image ≡ s
+unfolding deleteOf
+delete-refused s path stamp = deletable-image s path (wiped path stamp)
+
+pub delete-keep-refused : (s path : List ℕ) (stamp : ℤ)
+    → eqb (deleteKeepOf s path stamp .refusal) 0 ≡ false → deleteKeepOf s path stamp .image ≡ s
+unfolding deleteKeepOf
+delete-keep-refused s path stamp = deletable-image s path (deleted stamp)
 
 pub restore-refused : (s path : List ℕ) (stamp : ℤ)
     → eqb (restoreOf s path stamp .refusal) 0 ≡ false → restoreOf s path stamp .image ≡ s

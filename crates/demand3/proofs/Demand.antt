@@ -6,7 +6,7 @@ use Rattle.rules.specs.Refusals.{entries}
 use Rattle.rules.specs.Refusals.Laws.{judge-opens}
 use Rattle.rules.specs.History.{History, nothing, nameOfKept, ReadsBack, Holds, Demand3}
 use Rattle.rules.specs.Regions.{Extent}
-use Rattle.after.specs.After.{AfterFormat, AfterCreate, AfterDelete, AfterRestore, AfterReclaim}
+use Rattle.after.specs.After.{AfterFormat, AfterCreate, AfterDelete, AfterDeleteKeep, AfterRestore, AfterReclaim}
 use Rattle.laws.proofs.Lists.Perms.{perm-all, perm-map, perm-only, perm-sum}
 use Rattle.laws.proofs.Entries.Walked.{settled-entries}
 use Rattle.demand3.proofs.Seen.{seen-blocks, files-apart, seen-names}
@@ -27,9 +27,9 @@ held s h bad l =
       reads = perm-all (ReadsBack s) (l .agree) (reads-back s v (l .opens));
     }
 
-module _ (format-left : AfterFormat) (create-left : AfterCreate) (delete-left : AfterDelete) (restore-left : AfterRestore) (reclaim-left : AfterReclaim) where
+module _ (format-left : AfterFormat) (create-left : AfterCreate) (delete-left : AfterDelete) (delete-keep-left : AfterDeleteKeep) (restore-left : AfterRestore) (reclaim-left : AfterReclaim) where
   pub demand-3 : Demand3
   demand-3 s version bytesPerBlock reserved name stamp e cs =
       held _ _ _
-      (linked format-left create-left delete-left restore-left reclaim-left _ _ [] cs
-      (formatted format-left create-left delete-left restore-left reclaim-left s nothing version bytesPerBlock reserved name stamp e))
+      (linked format-left create-left delete-left delete-keep-left restore-left reclaim-left _ _ [] cs
+      (formatted format-left create-left delete-left delete-keep-left restore-left reclaim-left s nothing version bytesPerBlock reserved name stamp e))

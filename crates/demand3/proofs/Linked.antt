@@ -10,13 +10,13 @@ use Rattle.rules.specs.Lists.{pick, only, sum, Perm, keep, thus}
 use Rattle.rules.specs.Editions.{Edition, keepsDeleted}
 use Rattle.rules.specs.SuperBlock.{blockLength}
 use Rattle.rules.specs.Refusals.{accepted, Volume, judge}
-use Rattle.rules.specs.Writing.{New, formatOf, createOf, deleteOf, restoreOf, reclaimOf}
-use Rattle.rules.specs.History.{Call, format, openVolume, find, list, listAll, read, create, delete, restore, reclaim, passed, step, keptAt, marked, markedIn, struckIn, revived, Kept, History, fed, feed, run, told}
+use Rattle.rules.specs.Writing.{New, formatOf, createOf, deleteOf, deleteKeepOf, restoreOf, reclaimOf}
+use Rattle.rules.specs.History.{Call, format, openVolume, find, list, listAll, read, create, delete, deleteKeep, restore, reclaim, passed, step, keptAt, marked, markedIn, struckIn, revived, Kept, History, fed, feed, run, told}
 use Rattle.rules.specs.History.Laws.{Balanced, balanced-fed}
 use Rattle.rules.specs.Regions.{Extent}
-use Rattle.after.specs.After.{Left, sight, unusables, AfterFormat, AfterCreate, AfterDelete, AfterRestore, AfterReclaim}
+use Rattle.after.specs.After.{Left, sight, unusables, AfterFormat, AfterCreate, AfterDelete, AfterDeleteKeep, AfterRestore, AfterReclaim}
 use Rattle.laws.proofs.Lists.Perms.{perm-map, perm-only}
-use Rattle.demand3.proofs.Calls.{open-image, find-image, list-image, list-all-image, read-image, format-refused, create-refused, delete-refused, restore-refused, reclaim-refused}
+use Rattle.demand3.proofs.Calls.{open-image, find-image, list-image, list-all-image, read-image, format-refused, create-refused, delete-refused, delete-keep-refused, restore-refused, reclaim-refused}
 
 -- ---- the unusable regions: an accepted format leaves none, every other call leaves them
 unfoldable pub unusableFed : List Extent → Call → List Extent
@@ -28,6 +28,7 @@ unusableFed bad (listAll slot out) = bad
 unusableFed bad (read path out) = bad
 unusableFed bad (create new path stamp) = bad
 unusableFed bad (delete path stamp) = bad
+unusableFed bad (deleteKeep path stamp) = bad
 unusableFed bad (restore path stamp) = bad
 unusableFed bad (reclaim stamp) = bad
 
@@ -78,7 +79,7 @@ left-link s t h bad c told l n ed b p = record {
   sums = balanced-fed h c (l .sums);
 }
 
--- a delete marks or strikes, in the image as in the history
+-- a delete that keeps marks or strikes, in the image as in the history
 abbrev deletedIn : Bool → List ℕ → List Kept → List Kept
 deletedIn keeps path ks = pick keeps (map (marked path) ks) (only (λ k. not (keptAt path k)) ks)
 
@@ -89,7 +90,7 @@ unfolding pick markedIn struckIn
 told-deleted h path ks p true = (refl, refl, perm-map (marked path) p)
 told-deleted h path ks p false = (refl, refl, perm-only (λ k. not (keptAt path k)) p)
 
-module _ (format-left : AfterFormat) (create-left : AfterCreate) (delete-left : AfterDelete) (restore-left : AfterRestore) (reclaim-left : AfterReclaim) where
+module _ (format-left : AfterFormat) (create-left : AfterCreate) (delete-left : AfterDelete) (delete-keep-left : AfterDeleteKeep) (restore-left : AfterRestore) (reclaim-left : AfterReclaim) where
   -- from any image and any history
   pub formatted : (s : List ℕ) (h : History) (version bytesPerBlock reserved : ℕ) (name : List ℕ) (stamp : ℤ)
       → formatOf s version bytesPerBlock reserved name stamp .refusal ≡ 0
@@ -109,10 +110,17 @@ module _ (format-left : AfterFormat) (create-left : AfterCreate) (delete-left : 
   deleted : (s : List ℕ) (h : History) (bad : List Extent) (path : List ℕ) (stamp : ℤ) → Link s h bad
       → deleteOf s path stamp .refusal ≡ 0
       → Link (deleteOf s path stamp .image) (fed h (delete path stamp)) bad
-  unfolding fed
+  unfolding fed struckIn
   deleted s h bad path stamp l e =
+      left-link s _ h bad (delete path stamp) _ l (delete-left s (l .volume) path stamp (l .opens) e) refl refl (perm-only (λ k. not (keptAt path k)) (l .agree))
+
+  deletedKeeping : (s : List ℕ) (h : History) (bad : List Extent) (path : List ℕ) (stamp : ℤ) → Link s h bad
+      → deleteKeepOf s path stamp .refusal ≡ 0
+      → Link (deleteKeepOf s path stamp .image) (fed h (deleteKeep path stamp)) bad
+  unfolding fed
+  deletedKeeping s h bad path stamp l e =
       let k = told-deleted h path (sight s (l .volume)) (l .agree) (keepsDeleted (h .edition)) in
-      left-link s _ h bad (delete path stamp) _ l (delete-left s (l .volume) path stamp (l .opens) e) (k .0) (k .1)
+      left-link s _ h bad (deleteKeep path stamp) _ l (delete-keep-left s (l .volume) path stamp (l .opens) e) (k .0) (k .1)
       (subst (λ (ed : Edition). Perm (deletedIn (keepsDeleted ed) path (sight s (l .volume))) (pick (keepsDeleted (h .edition)) (markedIn h path) (struckIn h path) .kept))
       (sym (l .edition)) (k .2))
 
@@ -148,6 +156,8 @@ module _ (format-left : AfterFormat) (create-left : AfterCreate) (delete-left : 
       fed-by s _ h bad (create new path stamp) _ (λ a. created s h bad new path stamp l (eqb-true _ 0 a)) (create-refused s new path stamp) l
   stepped s h bad (delete path stamp) l =
       fed-by s _ h bad (delete path stamp) _ (λ a. deleted s h bad path stamp l (eqb-true _ 0 a)) (delete-refused s path stamp) l
+  stepped s h bad (deleteKeep path stamp) l =
+      fed-by s _ h bad (deleteKeep path stamp) _ (λ a. deletedKeeping s h bad path stamp l (eqb-true _ 0 a)) (delete-keep-refused s path stamp) l
   stepped s h bad (restore path stamp) l =
       fed-by s _ h bad (restore path stamp) _ (λ a. restored s h bad path stamp l (eqb-true _ 0 a)) (restore-refused s path stamp) l
   stepped s h bad (reclaim stamp) l =

@@ -13,7 +13,7 @@ use Rattle.rules.specs.Outcome.{Outcome, done}
 use Rattle.rules.specs.Writing.{formatOf}
 use Rattle.rules.specs.Text.{text}
 use Rattle.rules.specs.Listing.{listingOf, volumeText, linesOf, countLine}
-use Rattle.rules.specs.History.{Call, format, openVolume, find, list, listAll, read, create, delete, restore, reclaim, Passed, passed, step, History, nothing, fed, feed, run, told, nameOfEntry, nameOfKept, Holds, ReadsBack}
+use Rattle.rules.specs.History.{Call, format, openVolume, find, list, listAll, read, create, delete, deleteKeep, restore, reclaim, Passed, passed, step, History, nothing, fed, feed, run, told, nameOfEntry, nameOfKept, Holds, ReadsBack}
 use Rattle.contracts.specs.Contracts.{Reads, WritesListing}
 use Rattle.contracts.specs.Contracts.Laws.{text-done}
 use Rattle.contracts.specs.declared.Content.{Content}
@@ -37,6 +37,7 @@ answered-step s (listAll slot out) p (r, after, e, h) = same-passed _ _ p e h
 answered-step s (read path out) p (r, after, e, h) = same-passed _ _ p e h
 answered-step s (create new path stamp) p (r, t, e, h) = same-passed _ _ p e h
 answered-step s (delete path stamp) p (r, t, e, h) = same-passed _ _ p e h
+answered-step s (deleteKeep path stamp) p (r, t, e, h) = same-passed _ _ p e h
 answered-step s (restore path stamp) p (r, t, e, h) = same-passed _ _ p e h
 answered-step s (reclaim stamp) p (r, t, e, h) = same-passed _ _ p e h
 

@@ -12,8 +12,8 @@ use Rattle.rules.specs.Index.{Entry as Held, typeFile}
 use Rattle.rules.specs.Regions.{heldBlocks}
 use Rattle.rules.specs.Paths.{isLive}
 use Rattle.rules.specs.Listing.{countLine}
-use Rattle.rules.specs.History.{Call, format, openVolume, find, list, listAll, read, create, delete, restore, reclaim, Passed, Kept, History, nothing, fed, feed, Holds}
-use Rattle.contracts.specs.Contracts.{Formats, OpensVolume, Finds, Lists, ListsAll, Reads, Creates, Deletes, Restores, Reclaims, WritesListing}
+use Rattle.rules.specs.History.{Call, format, openVolume, find, list, listAll, read, create, delete, deleteKeep, restore, reclaim, Passed, Kept, History, nothing, fed, feed, Holds}
+use Rattle.contracts.specs.Contracts.{Formats, OpensVolume, Finds, Lists, ListsAll, Reads, Creates, Deletes, DeletesKeeping, Restores, Reclaims, WritesListing}
 use Rattle.contracts.specs.declared.Volume.{Volume}
 use Rattle.contracts.specs.declared.Entry.{Entry}
 use Rattle.contracts.specs.declared.Listed.{Listed}
@@ -35,6 +35,7 @@ Answered s (listAll slot out) p = (r : Records) × (after : List ℕ) × ListsAl
 Answered s (read path out) p = (r : Content) × (after : List ℕ) × Reads s path out r after × (p ≡ passedAs (r .refusal) s)
 Answered s (create new path stamp) p = (r : ℕ) × (t : List ℕ) × Creates s new path stamp r t × (p ≡ passedAs r t)
 Answered s (delete path stamp) p = (r : ℕ) × (t : List ℕ) × Deletes s path stamp r t × (p ≡ passedAs r t)
+Answered s (deleteKeep path stamp) p = (r : ℕ) × (t : List ℕ) × DeletesKeeping s path stamp r t × (p ≡ passedAs r t)
 Answered s (restore path stamp) p = (r : ℕ) × (t : List ℕ) × Restores s path stamp r t × (p ≡ passedAs r t)
 Answered s (reclaim stamp) p = (r : ℕ) × (t : List ℕ) × Reclaims s stamp r t × (p ≡ passedAs r t)
 

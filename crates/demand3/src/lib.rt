@@ -7,7 +7,7 @@ use contracts::Records;
 use contracts::Volume;
 ghost use Rattle.rules.specs.Lists.{All};
 ghost use Rattle.rules.specs.Writing.{newFile, newDirectory};
-ghost use Rattle.rules.specs.History.{History, Holds, format, openVolume, find, list, listAll, read, create, delete, restore, reclaim};
+ghost use Rattle.rules.specs.History.{History, Holds, format, openVolume, find, list, listAll, read, create, delete, deleteKeep, restore, reclaim};
 ghost use Rattle.contracts.specs.Contracts.{WritesListing};
 ghost use Rattle.demand3.specs.Runs.{Answered, passedAs, BytesBack, ListingCounts};
 
@@ -72,6 +72,12 @@ pub fn serve_delete(image: &mut [u8], path: &[u8], stamp: i64) -> u32
     ensures { λ r. ⌜ Answered (now (image .entry)) (delete (now (path .entry)) stamp) (passedAs r (now (image .exit))) ⌝ }
 {
     sfs::sfs_delete(image, path, stamp)
+}
+
+pub fn serve_delete_keep(image: &mut [u8], path: &[u8], stamp: i64) -> u32
+    ensures { λ r. ⌜ Answered (now (image .entry)) (deleteKeep (now (path .entry)) stamp) (passedAs r (now (image .exit))) ⌝ }
+{
+    sfs::sfs_delete_keep(image, path, stamp)
 }
 
 pub fn serve_restore(image: &mut [u8], path: &[u8], stamp: i64) -> u32

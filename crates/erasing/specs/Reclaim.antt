@@ -6,13 +6,13 @@ use mathlib.Core.List.{List, [], _∷_}
 use native.Mathlib.Omega.{arith}
 use lib.ListN.{length, drop}
 use lib.IntN.{ℤ}
-use Rattle.rules.specs.Lists.{pick, All}
+use Rattle.rules.specs.Lists.{pick}
 use Rattle.rules.specs.Lists.Laws.{and-true}
 use Rattle.rules.specs.Fields.{splice}
 use Rattle.rules.specs.Fields.Laws.{length-splice}
 use Rattle.rules.specs.Editions.{keepsDeleted}
-use Rattle.rules.specs.SuperBlock.{Geometry, writable, trimData, withData, restamp, putSizes}
-use Rattle.rules.specs.SuperBlock.Laws.{GoodGeometry, same-self, same-trim, same-restamp}
+use Rattle.rules.specs.SuperBlock.{Geometry, writable, putSizes}
+use Rattle.rules.specs.SuperBlock.Laws.{GoodGeometry}
 use Rattle.rules.specs.Index.{Entry, Item, deletedType, slotAt, unusedBytes, itemsOf, entriesOf, markerGood, identifierGood, indexSound}
 use Rattle.rules.specs.Index.Items.{faultless}
 use Rattle.rules.specs.Index.Laws.{length-unusedBytes}
@@ -20,12 +20,13 @@ use Rattle.rules.specs.Index.Walk.{pick-both}
 use Rattle.rules.specs.Refusals.{accepted, judge}
 use Rattle.rules.specs.Refusals.Laws.{Opens, judge-opens, opens-judge}
 use Rattle.rules.specs.Paths.{isDeleted}
-use Rattle.rules.specs.Writing.{undeleted, cleared, leastEnd, reclaimOf}
+use Rattle.rules.specs.Writing.{cleared, reclaimOf}
 use Rattle.rules.specs.Writing.Laws.{wrote, tidyImage, reclaim-done}
 use Rattle.laws.proofs.Lists.Spans.{drop-splice-after}
 use Rattle.laws.proofs.Index.Slots.{slot-at}
 use Rattle.laws.proofs.Images.Tidying.{settledVolume, settled-entries, tidied-opens}
-use Rattle.laws.proofs.Images.Sizes.{restamp-index, sizes-long, sizes-items}
+use Rattle.laws.proofs.Images.Clearing.{cleared-none}
+use Rattle.laws.proofs.Images.Sizes.{sizes-long, sizes-items}
 use Rattle.editions.specs.View.{editionView}
 use Rattle.geometry.specs.declared.Geometry.{Geometry as Held}
 use Rattle.geometry.specs.View.{geometryView}
@@ -38,6 +39,9 @@ use Rattle.paths.specs.Entries.{all-undeleted}
 use Rattle.super_block.specs.View.{Judged as GoodSuper}
 use Rattle.judging.specs.View.{Opened, volumeOf, opened-super, opened-sound}
 use Rattle.retyping.specs.Planned.{tidyOf}
+use Rattle.free_runs.specs.declared.Gone.the-variants.{Deleted}
+use Rattle.free_runs.specs.View.{isGone}
+use Rattle.erasing.specs.Least.{leastSizes, SameIndex}
 
 -- ---- an entry that stands at the front
 -- the image once its run is cleared, if it is deleted
@@ -117,29 +121,17 @@ module _ (s : List ℕ) (c : Cursor) (h : Head) (d : Cursor) (step : Step s c h 
   clears-more r b x = clears-both r s t b c d x step-clears
 
 -- ---- the image that a reclaim leaves, of a volume with the geometry g
-unfoldable pub leastSizes : List ℕ → Geometry → ℤ → Geometry
-leastSizes s g z = restamp g (trimData g (leastEnd (undeleted (entriesOf (itemsOf s g))))) z
-
 -- these sizes, and the deleted runs cleared
 unfoldable pub leastWritten : List ℕ → Geometry → Geometry → List ℕ
 leastWritten s g k = cleared isDeleted (putSizes s k) k (entriesOf (itemsOf s g))
 
 unfoldable pub reclaimed : List ℕ → Geometry → ℤ → List ℕ
-reclaimed s g z = cleared isDeleted (putSizes (tidyImage s (volumeOf s g)) (leastSizes s g z)) (leastSizes s g z) (entriesOf (itemsOf s g))
+reclaimed s g z =
+    cleared isDeleted (putSizes (tidyImage s (volumeOf s g)) (leastSizes Deleted s g z)) (leastSizes Deleted s g z) (entriesOf (itemsOf s g))
 
 pub reclaim-written : (s : List ℕ) (g : Geometry) → judge s ≡ accepted (volumeOf s g) → writable g ≡ true → (z : ℤ) → reclaimOf s z ≡ wrote (reclaimed s g z)
-unfolding reclaimed leastSizes
+unfolding reclaimed leastSizes isGone
 reclaim-written s g o c z = reclaim-done s (volumeOf s g) o c z
-
--- the edition and the index area's size are kept
-abbrev pub SameIndex : Geometry → Geometry → Type 0
-SameIndex k g = (k .edition ≡ g .edition) × (k .indexBytes ≡ g .indexBytes)
-
-pub least-index : (s : List ℕ) (g k : Geometry) (z : ℤ) → k ≡ leastSizes s g z → SameIndex k g
-unfolding leastSizes trimData withData
-least-index s g k z e =
-    let t : Geometry = trimData g (leastEnd (undeleted (entriesOf (itemsOf s g)))) in
-    (ap (λ (x : Geometry). x .edition) e ∙ same-restamp t g (same-trim g g (same-self g) (leastEnd (undeleted (entriesOf (itemsOf s g))))) g z .edition-same, ap (λ (x : Geometry). x .indexBytes) e ∙ restamp-index g t z)
 
 -- as a program clears them: from a cursor at the first inner slot on
 pub clears-index : (s u : List ℕ) (g : Geometry) (c : Cursor) → editionView (c .edition) ≡ g .edition → c .at .0 ≡ slotAt s g (c .slot .0) → itemsFrom s c ≡ itemsOf s g
@@ -148,12 +140,6 @@ pub clears-index : (s u : List ℕ) (g : Geometry) (c : Cursor) → editionView 
 clears-index s u g c of at items clears h same =
     clears h (of ∙ sym (same .0)) (omega (arith, at, slot-at s g (c .slot .0), slot-at s h (c .slot .0), same .1))
     ∙ ap (λ is. cleared isDeleted s h (entriesOf is)) items
-
--- nothing is written where nothing is deleted
-cleared-none : (s : List ℕ) (g : Geometry) (es : List Entry) → All (λ e. isDeleted e ≡ false) es → cleared isDeleted s g es ≡ s
-unfolding cleared pick
-cleared-none s g [] all = refl
-cleared-none s g (e ∷ es) all = rw (all .0) (cleared-none s g es (all .1))
 
 -- the sizes lie before the index area, whose size is kept
 module _ (s : List ℕ) (g : Geometry) (good : GoodGeometry (length s) g) (k : Geometry) (kept : SameIndex k g) (t : List ℕ) (put : t ≡ putSizes s k) where
@@ -169,7 +155,7 @@ module _ (s : List ℕ) (g : Geometry) (good : GoodGeometry (length s) g) (k : G
 
   pub put-alone : keepsDeleted (g .edition) ≡ false → t ≡ leastWritten s g k
   unfolding leastWritten itemsOf
-  put-alone keeps = put ∙ sym (cleared-none (putSizes s k) k (entriesOf (itemsOf s g)) (all-undeleted (g .edition) keeps _ _ _))
+  put-alone keeps = put ∙ sym (cleared-none isDeleted (putSizes s k) k (entriesOf (itemsOf s g)) (all-undeleted (g .edition) keeps _ _ _))
 
 -- the index is as it was
 pub put-sound : (s : List ℕ) (g : Held) → Opened s g → (k : Geometry) → SameIndex k (geometryView g) → (t : List ℕ) → t ≡ putSizes s k
@@ -182,11 +168,6 @@ put-sound s g o k kept t put =
       rw (put-items s (geometryView g) (j .good) k kept t put)
           (and-true (markerGood s (geometryView g) && identifierGood (geometryView g .edition) s) (faultless (itemsOf s (geometryView g))) (opened-sound s g o) .1),
     )
-
-pub sizes-are : (s : List ℕ) (g : Geometry) (z : ℤ) (c : Cursor) → itemsFrom s c ≡ itemsOf s g
-    → (e : ℕ) (t k : Geometry) → e ≡ leastEnd (undeleted (entriesFrom s c)) → t ≡ trimData g e → k ≡ restamp g t z → k ≡ leastSizes s g z
-unfolding leastSizes
-sizes-are s g z c items e t k x y w = w ∙ ap (λ h. restamp g h z) (y ∙ ap (trimData g) (x ∙ ap (λ is. leastEnd (undeleted (entriesOf is))) items))
 
 -- ---- in the tidied image the same entries stand
 module _ (s : List ℕ) (g : Held) (o : Opened s g) where
@@ -201,7 +182,7 @@ module _ (s : List ℕ) (g : Held) (o : Opened s g) where
       rw e (opens-judge (tidyOf s g) (settledVolume (volumeOf s (geometryView g))) after
       ∙ ap (λ (is : List Item). accepted (record { geometry = geometryView g; items = is })) (after .items-are))
 
-  pub reclaimed-put : (z : ℤ) (k : Geometry) → k ≡ leastSizes s (geometryView g) z → (t u : List ℕ) → t ≡ tidyOf s g → u ≡ leastWritten t (geometryView g) k → u ≡ reclaimed s (geometryView g) z
+  pub reclaimed-put : (z : ℤ) (k : Geometry) → k ≡ leastSizes Deleted s (geometryView g) z → (t u : List ℕ) → t ≡ tidyOf s g → u ≡ leastWritten t (geometryView g) k → u ≡ reclaimed s (geometryView g) z
   unfolding leastWritten reclaimed
   reclaimed-put z k is t u e f =
       let same : entriesOf (itemsOf (tidyOf s g) (geometryView g)) ≡ entriesOf (itemsOf s (geometryView g)) = ap entriesOf (sym (after .items-are)) ∙ settled-entries (itemsOf s (geometryView g)) in

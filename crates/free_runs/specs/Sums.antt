@@ -9,8 +9,7 @@ use Rattle.rules.specs.Lists.{pick, only, keepIf, sum, largest, All}
 use Rattle.rules.specs.Index.{Entry, fileType}
 use Rattle.rules.specs.Index.Walk.{walkAll, pick-both}
 use Rattle.rules.specs.Regions.{blocksOf, heldBlocks}
-use Rattle.rules.specs.Paths.{isDeleted}
-use Rattle.rules.specs.Writing.{undeleted, leastEnd}
+use Rattle.rules.specs.Writing.{leastEnd}
 use Rattle.editions.specs.View.{editionView}
 use Rattle.slots.specs.declared.Head.{Head}
 use Rattle.slots.specs.View.{headView, end-near}
@@ -37,22 +36,26 @@ pub held-next : (es : List Entry) (x : Entry) (xs : List Entry) → es ≡ x ∷
 unfolding heldBlocks fileBlocks only
 held-next es x xs h = rw h (sum-keep blocksOf (fileType (x .kind)) x (only (λ e. fileType (e .kind)) xs))
 
--- what one entry adds to the least end
-unfoldable pub keptEnd : Entry → ℕ
-keptEnd e = pick (isDeleted e) 0 (e .end)
-
-pub least-end : (es : List Entry) → es ≡ [] → leastEnd (undeleted es) ≡ 0
-unfolding leastEnd only largest
-least-end es h = rw h
+-- what one entry adds to the least end, where those that pass go
+unfoldable pub keptEnd : (Entry → Bool) → Entry → ℕ
+keptEnd p e = pick (p e) 0 (e .end)
 
 largest-keep : (f : Entry → ℕ) (t : Bool) (x : Entry) (xs : List Entry) → largest f (keepIf (not t) x xs) ≡ max (pick t 0 (f x)) (largest f xs)
 unfolding largest keepIf pick
 largest-keep f true x xs = omega arith
 largest-keep f false x xs = refl
 
-pub least-next : (es : List Entry) (x : Entry) (xs : List Entry) → es ≡ x ∷ xs → leastEnd (undeleted es) ≡ max (keptEnd x) (leastEnd (undeleted xs))
-unfolding leastEnd keptEnd only
-least-next es x xs h = rw h (largest-keep (λ e. e .end) (isDeleted x) x (undeleted xs))
+module _ (p : Entry → Bool) where
+  abbrev stay : List Entry → List Entry
+  stay es = only (λ e. not (p e)) es
+
+  pub least-end : (es : List Entry) → es ≡ [] → leastEnd (stay es) ≡ 0
+  unfolding leastEnd only largest
+  least-end es h = rw h
+
+  pub least-next : (es : List Entry) (x : Entry) (xs : List Entry) → es ≡ x ∷ xs → leastEnd (stay es) ≡ max (keptEnd p x) (leastEnd (stay xs))
+  unfolding leastEnd keptEnd only
+  least-next es x xs h = rw h (largest-keep (λ e. e .end) (p x) x (stay xs))
 
 -- ---- the ends of small regions fit 64 bits, and so do the blocks held
 pub small-stored : (s : List ℕ) (h : Head) → Small (headView s h) → h .end .0 + 1 < 2 ^ 64

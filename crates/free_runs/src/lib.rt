@@ -4,6 +4,7 @@ use index::Cursor;
 use index::Next;
 use slots::Head;
 use units::Block;
+use units::Slot;
 ghost use mathlib.Core.Path.{_≡_};
 ghost use mathlib.Core.List.{List};
 ghost use mathlib.Core.Option.{none, some};
@@ -13,13 +14,13 @@ ghost use lib.Dec.{leb};
 ghost use Rattle.rules.specs.Lists.{pick, All};
 ghost use Rattle.rules.specs.Index.{Entry};
 ghost use Rattle.rules.specs.Regions.{heldBlocks, lowestFree, blocksNeeded};
-ghost use Rattle.rules.specs.Writing.{undeleted, leastEnd};
+ghost use Rattle.rules.specs.Writing.{leastEnd};
 ghost use Rattle.slots.specs.View.{headView};
 ghost use Rattle.index.specs.View.{SumsFrom};
 ghost use Rattle.index.specs.Steps.{Walks, entriesFrom};
 ghost use Rattle.ordering.specs.Regions.{freeFrom, Small};
 ghost use Rattle.regions.specs.Gathering.{HasRegions};
-ghost use Rattle.free_runs.specs.View.{freeView};
+ghost use Rattle.free_runs.specs.View.{freeView, isGone, staying};
 ghost use Rattle.free_runs.specs.Sums.{fileBlocks, keptEnd};
 
 pub enum Free {
@@ -108,21 +109,36 @@ pub fn held_blocks(img: &[u8], sums: &[u8], from: Cursor) -> u64
     }
 }
 
-// The end of a region that a reclaim keeps, 0 of a deleted entry.
-fn kept_end(h: Head) -> Block
-    requires { ⌜ h .end .0 + 1 < 2 ^ 64 ⌝ }
-    ensures { λ r. ⌜ ((s : List ℕ) → r .0 ≡ keptEnd (headView s h)) ⌝ }
+// The entries that a call takes away: all deleted ones, or the one whose first slot this is.
+pub enum Gone {
+    Deleted,
+    At(Slot),
+}
+
+fn is_gone(h: Head, gone: Gone) -> bool
+    ensures { λ r. ⌜ ((s : List ℕ) → r ≡ isGone gone (headView s h)) ⌝ }
 {
-    if slots::is_deleted(h.kind) {
+    match gone {
+        Gone::Deleted => slots::is_deleted(h.kind),
+        Gone::At(slot) => h.slot.number() == slot.number(),
+    }
+}
+
+// The end of a region that is kept, 0 of an entry that goes.
+fn kept_end(h: Head, gone: Gone) -> Block
+    requires { ⌜ h .end .0 + 1 < 2 ^ 64 ⌝ }
+    ensures { λ r. ⌜ ((s : List ℕ) → r .0 ≡ keptEnd (isGone gone) (headView s h)) ⌝ }
+{
+    if is_gone(h, gone) {
         return Block::at(0);
     }
     slots::past_end(h)
 }
 
-// The least end that the data area can have once deleted entries are gone.
-pub fn last_end(img: &[u8], sums: &[u8], from: Cursor) -> Block
+// The least end that the data area can have once these entries are gone.
+pub fn last_end(img: &[u8], sums: &[u8], from: Cursor, gone: Gone) -> Block
     requires { ⌜ Walks (now img) from × All Small (entriesFrom (now img) from) × SumsFrom (now img) (now sums) from ⌝ }
-    ensures { λ r. ⌜ r .0 ≡ leastEnd (undeleted (entriesFrom (now (img .entry)) from)) ⌝ }
+    ensures { λ r. ⌜ r .0 ≡ leastEnd (staying gone (entriesFrom (now (img .entry)) from)) ⌝ }
 {
     let mut c = from;
     let mut last = Block::at(0);
@@ -130,7 +146,7 @@ pub fn last_end(img: &[u8], sums: &[u8], from: Cursor) -> Block
         match index::next_entry(img, sums, c) {
             Next::End => return last,
             Next::Found(e, rest) => {
-                last = last.later(kept_end(e));
+                last = last.later(kept_end(e, gone));
                 c = rest;
             }
         }

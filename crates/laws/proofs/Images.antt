@@ -8,6 +8,7 @@ pub mod Region
 pub mod Inner
 pub mod Indexes
 pub mod Clearing
+pub mod Live
 pub mod Sizes
 pub mod Marker
 pub mod Placing

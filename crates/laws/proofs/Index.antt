@@ -3,6 +3,7 @@ pub mod Slots
 pub mod Items
 pub mod Walks
 pub mod Entries
+pub mod Rising
 pub mod Ends
 pub mod Places
 pub mod Unused

@@ -29,22 +29,13 @@ use Rattle.placing.specs.Site.{newOf, siteView, BlocksIn, SiteIn}
 abbrev pub blocksImage : List ℕ → Placing → List ℕ → List ℕ
 blocksImage s p bytes = splice s (p .start * blockLength (p .new)) (padded bytes ((p .end - p .start) * blockLength (p .new)))
 
--- a region's bytes, by its two ends
-region-bytes : (a e b : ℕ) → a ≤ e → e * b ≡ a * b + (e - a) * b
-region-bytes a e b h = let z : e ≡ a + (e - a) = omega arith in ap (λ (k : ℕ). k * b) z ∙ add-mul a (e - a) b
-
+-- by the block length that was found
 module _ (p : Placing) (b : ℕ) (is : b ≡ blockLength (p .new)) where
-  -- the two ends of the region lie in the image, and the bytes between them
-  pub blocks-fit : (n bytes : ℕ) → BlocksIn n p bytes → (p .start * b + bytes ≤ p .end * b) × (p .end * b ≤ n)
-  blocks-fit n bytes i =
-      let r = region-bytes (p .start) (p .end) (blockLength (p .new)) (i .ordered) in
-      rw is (omega (arith, i .holds, r), i .region)
+  pub blocks-fit : (n bytes : ℕ) → BlocksIn n p bytes → (p .start ≤ p .end) × (p .end * b ≤ n) × (bytes ≤ (p .end - p .start) * b)
+  blocks-fit n bytes i = rw is (i .ordered, i .region, i .holds)
 
-  pub blocks-put : (s t bytes : List ℕ) (a e : ℕ) → p .start ≤ p .end → a ≡ p .start * b → e ≡ p .end * b
-      → t ≡ splice s a (padded bytes (e - a)) → t ≡ blocksImage s p bytes
-  blocks-put s t bytes a e o ea ee f =
-      let w : e - a ≡ (p .end - p .start) * b = omega (arith, region-bytes (p .start) (p .end) b o) in
-      f ∙ rw (w, ea, is)
+  pub blocks-put : (s t bytes : List ℕ) → t ≡ splice s (p .start * b) (padded bytes ((p .end - p .start) * b)) → t ≡ blocksImage s p bytes
+  blocks-put s t bytes put = put ∙ rw is
 
 -- ---- all of it, by the kind and the bytes
 -- the head of the run, at a place and with its end

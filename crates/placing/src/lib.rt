@@ -26,15 +26,13 @@ pub struct Site {
 
 // ---- the blocks
 
-// The bytes, and zeros to the end of the last block: the region is lent on as a part of the image.
+// The bytes, and zeros to the end of the last block.
 fn put_blocks(img: &mut [u8], p: Site, bytes: &[u8])
     requires { ⌜ (length (now img) ≤ 16_777_216) × BlocksIn (length (now img)) (siteView p) (length (now bytes)) ⌝ }
     ensures { λ _. ⌜ now (img .exit) ≡ blocksImage (now (img .entry)) (siteView p) (now (bytes .entry)) ⌝ }
 {
     let len = p.new.block_length();
-    let start = p.start.offset(len);
-    let end = p.end.offset(len);
-    copying::write_part(img, start, end, bytes);
+    copying::write_blocks(img, len, p.start, p.end, bytes);
 }
 
 // ---- all of it

@@ -26,7 +26,7 @@ pub enum Retyping {
 }
 
 // The place of a slot.
-fn place_of(img: &[u8], g: Geometry, slot: Slot) -> Offset
+pub fn place_of(img: &[u8], g: Geometry, slot: Slot) -> Offset
     requires { ⌜ Opened (now img) g × (slotAt (now img) (geometryView g) (slot .0) + slotBytes ≤ length (now img)) ⌝ }
     ensures { λ r. ⌜ r .0 ≡ slotAt (now (img .entry)) (geometryView g) (slot .0) ⌝ }
 {

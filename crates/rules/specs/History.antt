@@ -1,5 +1,5 @@
--- 01, "The history", with restore as K2 adds it, the edition and delete as K4 has them: what it holds, how each call feeds it, and the statements
--- of demand 3 and of the claim about two images.
+-- 01, "The history", with restore as K2 adds it, the edition as K4 has it and both deletes as K7 has them: what it holds, how each call feeds it, and the
+-- statements of demand 3 and of the claim about two images.
 use Prim.Native.Nat.{ℕ, _+_, _-_, _*_, _≤_}
 use mathlib.Core.Path.{_≡_}
 use mathlib.Core.Bool.{Bool, true, false, _&&_, _||_, not}
@@ -18,7 +18,7 @@ use Rattle.rules.specs.Refusals.{accepted, Volume, entries, judge}
 use Rattle.rules.specs.Outcome.{Outcome, done}
 use Rattle.rules.specs.Reading.{openOf, findOf, listOf, readOf}
 use Rattle.rules.specs.Records.{listAllOf}
-use Rattle.rules.specs.Writing.{New, kindOf, bytesOf, formatOf, createOf, deleteOf, restoreOf, reclaimOf}
+use Rattle.rules.specs.Writing.{New, kindOf, bytesOf, formatOf, createOf, deleteOf, deleteKeepOf, restoreOf, reclaimOf}
 pub mod Laws
 
 -- ---- the calls, with any arguments and lent outputs
@@ -31,6 +31,7 @@ pub data Call : Type 0 where
   read : List ℕ → List ℕ → Call
   create : New → List ℕ → ℤ → Call
   delete : List ℕ → ℤ → Call
+  deleteKeep : List ℕ → ℤ → Call
   restore : List ℕ → ℤ → Call
   reclaim : ℤ → Call
 
@@ -51,6 +52,7 @@ step s (listAll slot out) = passed (listAllOf s slot out)
 step s (read path out) = passed (readOf s path out)
 step s (create new path stamp) = passed (createOf s new path stamp)
 step s (delete path stamp) = passed (deleteOf s path stamp)
+step s (deleteKeep path stamp) = passed (deleteKeepOf s path stamp)
 step s (restore path stamp) = passed (restoreOf s path stamp)
 step s (reclaim stamp) = passed (reclaimOf s stamp)
 
@@ -98,7 +100,7 @@ marked p k = withLive k (k .live && not (eqList (k .path) p))
 unfoldable pub revived : List ℕ → Kept → Kept
 revived p k = withLive k (k .live || eqList (k .path) p)
 
--- the entry that a delete names is marked, or struck and its blocks given back
+-- the entry that a delete names is marked, or struck and its blocks given back at once
 unfoldable pub markedIn : History → List ℕ → History
 markedIn h path =
     record { edition = h .edition; blockBytes = h .blockBytes; kept = map (marked path) (h .kept); granted = h .granted; givenBack = h .givenBack }
@@ -124,7 +126,8 @@ fed h (read path out) = h
 fed h (create new path stamp) =
     let k : Kept = keptOf (h .blockBytes) new path in
     record { edition = h .edition; blockBytes = h .blockBytes; kept = k ∷ h .kept; granted = h .granted + k .blocks; givenBack = h .givenBack }
-fed h (delete path stamp) = pick (keepsDeleted (h .edition)) (markedIn h path) (struckIn h path)
+fed h (delete path stamp) = struckIn h path
+fed h (deleteKeep path stamp) = pick (keepsDeleted (h .edition)) (markedIn h path) (struckIn h path)
 fed h (restore path stamp) =
     record { edition = h .edition; blockBytes = h .blockBytes; kept = map (revived path) (h .kept); granted = h .granted; givenBack = h .givenBack }
 fed h (reclaim stamp) = record {

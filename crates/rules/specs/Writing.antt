@@ -1,21 +1,22 @@
--- 01, "The calls": format, create, delete, restore (which K2 adds) and reclaim. They give no number but the refusal.
+-- 01, "The calls": format, create, delete as K7 has it, restore (which K2 adds) and reclaim. They give no number but the refusal.
 use Prim.Native.Nat.{ℕ, zero, suc, _+_, _-_, _*_, _/_}
+use mathlib.Core.Path.{_≡_}
 use mathlib.Core.Bool.{Bool, true, _&&_, not}
 use mathlib.Core.List.{List, [], _∷_, _++_}
 use mathlib.Core.Option.{Option, none, some}
-use lib.ListN.{length}
+use lib.ListN.{length, replicate}
 use lib.Dec.{eqb, leb}
 use lib.IntN.{ℤ}
-use Rattle.rules.specs.Lists.{pick, only, first, firstIf, padded, largest}
+use Rattle.rules.specs.Lists.{pick, only, first, firstIf, part, padded, largest}
 use Rattle.rules.specs.Fields.{splice}
 use Rattle.rules.specs.Editions.{Edition, versionOf, versionNamed, editionNamed, superBlockAt, keepsDeleted, beforeDirectories}
 use Rattle.rules.specs.SuperBlock.{Geometry, blockBytes, blockLength, ceilingBlock, dataEnd, mostIndexBytes, fieldOf, geometryGood, lengthGood, growIndex, extendData, trimData, restamp, superBlockBytes, putSizes, writable}
 use Rattle.rules.specs.Names.{pathGood, newPathGood, volumeNameGood, leading, isBelow}
 use Rattle.rules.specs.Index.{Entry, Item, unused, stale, entry, fault, fileType, typeFile, typeDirectory, typeDeletedFile, typeDeletedDirectory, slotBytes, slotAt, markerBytes, identifierBytes, unusedBytes, continuing, runBytes, retyped}
-use Rattle.rules.specs.Regions.{lowestFree, blocksNeeded}
-use Rattle.rules.specs.Paths.{isDeleted, deletedAt, lookup, directoryLive, anyBelow}
+use Rattle.rules.specs.Regions.{blocksOf, lowestFree, blocksNeeded}
+use Rattle.rules.specs.Paths.{liveAt, isDeleted, deletedAt, lookup, directoryLive, anyBelow}
 use Rattle.rules.specs.Lists.{isSome}
-use Rattle.rules.specs.Refusals.{Verdict, accepted, need, needFound, Volume, entries}
+use Rattle.rules.specs.Refusals.{Verdict, accepted, need, needFound, Volume, entries, judge}
 use Rattle.rules.specs.Outcome.{Outcome, done, conclude, onVolume}
 pub mod Laws
 
@@ -214,20 +215,58 @@ createOf s new path stamp =
     needFound (placeFile (length s) (run .geometry) (entries v) (newBlocks (v .geometry) new)) 16 (λ start.
     accepted (done tt (created t (siteOf v new path stamp run start) new path stamp) [])))))))
 
--- ---- delete: the type and the stamp of its entry, or unused slots where deleted entries are not kept
-unfoldable pub deletedKind : ℕ → ℕ
-deletedKind t = pick (fileType t) typeDeletedFile typeDeletedDirectory
+-- ---- an entry goes: its run, its blocks, and the data area that is left
+-- its run becomes unused slots
+abbrev pub runCleared : List ℕ → Geometry → Entry → List ℕ
+runCleared s g e = splice s (slotAt s g (e .slot)) (unusedBytes (g .edition) (e .slots))
 
-unfoldable pub deleted : Edition → List ℕ → ℕ → Entry → ℤ → List ℕ
-deleted ed s at e stamp = pick (keepsDeleted ed) (retyped ed s at (deletedKind (e .kind)) stamp) (splice s at (unusedBytes ed (e .slots)))
+-- every block of its region becomes zeros; a directory and an empty file have none
+unfoldable pub regionCleared : List ℕ → Geometry → Entry → List ℕ
+regionCleared s g e = splice s (e .start * blockLength g) (replicate (blocksOf e * blockLength g) 0)
 
-unfoldable pub deleteOf : List ℕ → List ℕ → ℤ → Written
-deleteOf s path stamp =
+-- the least end of a data area that covers the regions of these entries
+unfoldable pub leastEnd : List Entry → ℕ
+leastEnd es = largest (λ e. e .end) es
+
+-- the geometry once only these entries are left: the data area is trimmed to their regions, and the stamp is the call's if that changed its size
+abbrev pub trimmedTo : List Entry → Geometry → ℤ → Geometry
+trimmedTo es g stamp = restamp g (trimData g (leastEnd es)) stamp
+
+-- ---- delete, two calls as K7 has them, which refuse alike
+-- 10, 11 and 14, and then what the call writes: of the tidied image, the volume and the path's live entry
+unfoldable pub onDeletable : List ℕ → List ℕ → (List ℕ → Volume → Entry → List ℕ) → Written
+onDeletable s path write =
     onWritable s (λ t v.
     need (pathGood path) 10
     (needFound (lookup path (entries v)) 11 (λ e.
     need (not (anyBelow path (entries v))) 14
-    (accepted (done tt (deleted (v .geometry .edition) t (slotAt t (v .geometry) (e .slot)) e stamp) [])))))
+    (accepted (done tt (write t v e) [])))))
+
+-- all entries but the path's live one
+abbrev pub without : List ℕ → List Entry → List Entry
+without path es = only (λ e. not (liveAt path e)) es
+
+-- ---- the plain one wipes: zeros in the whole region, the data area trimmed to the regions left, unused slots for the run
+unfoldable pub wiped : List ℕ → ℤ → List ℕ → Volume → Entry → List ℕ
+wiped path stamp s v e =
+    let g : Geometry = trimmedTo (without path (entries v)) (v .geometry) stamp in
+    runCleared (putSizes (regionCleared s (v .geometry) e) g) g e
+
+unfoldable pub deleteOf : List ℕ → List ℕ → ℤ → Written
+deleteOf s path stamp = onDeletable s path (wiped path stamp)
+
+-- ---- the other keeps: the type and the stamp of its entry, or unused slots where deleted entries are not kept
+unfoldable pub deletedKind : ℕ → ℕ
+deletedKind t = pick (fileType t) typeDeletedFile typeDeletedDirectory
+
+unfoldable pub deleted : ℤ → List ℕ → Volume → Entry → List ℕ
+deleted stamp s v e =
+    pick (keepsDeleted (v .geometry .edition))
+    (retyped (v .geometry .edition) s (slotAt s (v .geometry) (e .slot)) (deletedKind (e .kind)) stamp)
+    (runCleared s (v .geometry) e)
+
+unfoldable pub deleteKeepOf : List ℕ → List ℕ → ℤ → Written
+deleteKeepOf s path stamp = onDeletable s path (deleted stamp)
 
 -- ---- restore, request K2: the type and the stamp of the path's one deleted entry
 -- a deleted file is a file again, a deleted directory a directory
@@ -257,14 +296,24 @@ undeleted es = only (λ e. not (isDeleted e)) es
 -- the runs of the entries that pass become unused slots
 unfoldable pub cleared : (Entry → Bool) → List ℕ → Geometry → List Entry → List ℕ
 cleared p s g [] = s
-cleared p s g (e ∷ es) = cleared p (pick (p e) (splice s (slotAt s g (e .slot)) (unusedBytes (g .edition) (e .slots))) s) g es
-
--- the least end of a data area that covers the regions of these entries
-unfoldable pub leastEnd : List Entry → ℕ
-leastEnd es = largest (λ e. e .end) es
+cleared p s g (e ∷ es) = cleared p (pick (p e) (runCleared s g e) s) g es
 
 unfoldable pub reclaimOf : List ℕ → ℤ → Written
 reclaimOf s stamp =
     onWritable s (λ t v.
-    let g : Geometry = restamp (v .geometry) (trimData (v .geometry) (leastEnd (undeleted (entries v)))) stamp in
+    let g : Geometry = trimmedTo (undeleted (entries v)) (v .geometry) stamp in
     accepted (done tt (cleared isDeleted (putSizes t g) g (entries v)) []))
+
+-- ---- THE PROMISE OF A PLAIN DELETE: where the file's bytes were are zeros, and where its name was are unused slots
+pub record Wiped (t : List ℕ) (g : Geometry) (e : Entry) : Type 0 where
+  pub region : part t (e .start * blockLength g) (blocksOf e * blockLength g) ≡ replicate (blocksOf e * blockLength g) 0
+  pub run : part t (slotAt t g (e .slot)) (slotBytes * e .slots) ≡ unusedBytes (g .edition) (e .slots)
+
+-- of the image that an accepted one leaves, and the entry that the path had
+abbrev pub DeleteWipes : Type 0
+DeleteWipes =
+    (s : List ℕ) (v : Volume) (path : List ℕ) (e : Entry) (stamp : ℤ)
+    → judge s ≡ accepted v
+    → lookup path (entries v) ≡ some e
+    → deleteOf s path stamp .refusal ≡ 0
+    → Wiped (deleteOf s path stamp .image) (v .geometry) e

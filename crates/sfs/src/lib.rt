@@ -6,10 +6,10 @@ use contracts::Listed;
 use contracts::Records;
 use contracts::Volume;
 ghost use mathlib.Core.Path.{_≡_};
-ghost use Rattle.contracts.specs.Contracts.{TellsApi, Formats, OpensVolume, Finds, Lists, ListsAll, Reads, CreatesFile, CreatesDirectory, Deletes, Restores, Reclaims, WritesListing, CountsImage, WritesReport};
+ghost use Rattle.contracts.specs.Contracts.{TellsApi, Formats, OpensVolume, Finds, Lists, ListsAll, Reads, CreatesFile, CreatesDirectory, Deletes, DeletesKeeping, Restores, Reclaims, WritesListing, CountsImage, WritesReport};
 
-// The number of the interface, raised whenever a struct or an argument changes.
-const API: u32 = 1;
+// The number of the interface, raised whenever a struct, an argument or what a call does changes.
+const API: u32 = 2;
 
 #[no_mangle]
 pub extern "C" fn sfs_api() -> u32
@@ -93,6 +93,13 @@ pub extern "C" fn sfs_delete(image: &mut [u8], path: &[u8], stamp: i64) -> u32
     ensures { λ r. ⌜ Deletes (now (image .entry)) (now (path .entry)) stamp r (now (image .exit)) ⌝ }
 {
     erasing::delete(image, path, stamps::to_bits(stamp))
+}
+
+#[no_mangle]
+pub extern "C" fn sfs_delete_keep(image: &mut [u8], path: &[u8], stamp: i64) -> u32
+    ensures { λ r. ⌜ DeletesKeeping (now (image .entry)) (now (path .entry)) stamp r (now (image .exit)) ⌝ }
+{
+    erasing::delete_keep(image, path, stamps::to_bits(stamp))
 }
 
 #[no_mangle]

@@ -1,4 +1,4 @@
--- Calls one after the other, by their contracts: what the laws of the definitions come to.
+-- Calls alone and one after the other, by their contracts: what the laws of the definitions come to.
 use Prim.Native.Nat.{ℕ}
 use mathlib.Core.Path.{_≡_, refl, sym, ap, subst, _∙_}
 use mathlib.Core.Bool.{Bool, true, false}
@@ -14,15 +14,16 @@ use Rattle.rules.specs.Paths.{deletedAt}
 use Rattle.rules.specs.Refusals.{accepted, Volume, entries, judge}
 use Rattle.rules.specs.Outcome.{done, numbersOf}
 use Rattle.rules.specs.Reading.Laws.{find-done}
-use Rattle.rules.specs.Writing.{Written, deleteOf, restoreOf, reclaimOf}
+use Rattle.rules.specs.Writing.{Written, onDeletable, wiped, Wiped, deleteOf, deleted, deleteKeepOf, restoreOf, reclaimOf}
 use Rattle.rules.specs.Writing.Laws.{refusedWrite, wrote, restore-name}
-use Rattle.contracts.specs.Contracts.{writtenAs, Finds, Deletes, Restores, Reclaims}
+use Rattle.contracts.specs.Contracts.{writtenAs, Finds, Deletes, DeletesKeeping, Restores, Reclaims}
 use Rattle.contracts.specs.declared.Entry.{Entry}
 use Rattle.laws.proofs.Images.Accepted.{passed-opens}
-use Rattle.after.proofs.Delete.{delete-passed}
+use Rattle.after.proofs.Deletable.{delete-passed}
+use Rattle.after.proofs.Delete.{delete-wipes}
 use Rattle.after.proofs.Reclaim.Left.{Reopens, reclaim-reopens}
 use Rattle.after.proofs.Back.{deleted-restored, reclaimed-restored, still-may}
-use Rattle.undoing.specs.Undone.{UndoneBy, Undone, TooLate}
+use Rattle.undoing.specs.Undone.{LeavesNothing, UndoneBy, Undone, TooLate}
 
 -- a call answers and leaves what its definition does
 same-refusal : (r : ℕ) (t : List ℕ) (o : Written) → writtenAs r t ≡ o → r ≡ o .refusal
@@ -32,11 +33,21 @@ same-image : (r : ℕ) (t : List ℕ) (o : Written) → writtenAs r t ≡ o → 
 same-image r t o e = sym (ap (λ (x : Written). x .image) e)
 
 -- so one that refused was not served
-pub not-deleted : {X : Type 0} (s t path : List ℕ) (stamp : ℤ) (r : ℕ) → Deletes s path stamp r t → (r ≡ 0 → ⊥) → deleteOf s path stamp .refusal ≡ 0 → X
-not-deleted s t path stamp r e n z = absurd (n (same-refusal r t (deleteOf s path stamp) e ∙ z))
+pub not-deleted : {X : Type 0} (s t path : List ℕ) (stamp : ℤ) (r : ℕ) → DeletesKeeping s path stamp r t → (r ≡ 0 → ⊥) → deleteKeepOf s path stamp .refusal ≡ 0 → X
+not-deleted s t path stamp r e n z = absurd (n (same-refusal r t (deleteKeepOf s path stamp) e ∙ z))
 
 pub not-reclaimed : {X : Type 0} (s t : List ℕ) (stamp : ℤ) (r : ℕ) → Reclaims s stamp r t → (r ≡ 0 → ⊥) → reclaimOf s stamp .refusal ≡ 0 → X
 not-reclaimed s t stamp r e n z = absurd (n (same-refusal r t (reclaimOf s stamp) e ∙ z))
+
+-- ---- nothing left
+pub leaves-nothing : (s t path : List ℕ) (stamp : ℤ) (r : ℕ) → Deletes s path stamp r t → LeavesNothing s path r t
+unfolding deleteOf onDeletable
+leaves-nothing s t path stamp r deletes accepted =
+    let w : Written = deleteOf s path stamp in
+    let z : w .refusal ≡ 0 = sym (same-refusal r t w deletes) ∙ accepted in
+    let o = passed-opens s _ z in
+    let d = delete-passed s (o .0) path (wiped path stamp) (o .1) z in
+    (o .0, d .it, o .1, d .found, subst (λ (u : List ℕ). Wiped u (o .0 .geometry) (d .it)) (same-image r t w deletes) (delete-wipes s (o .0) path (d .it) stamp (o .1) (d .found) z))
 
 -- ---- a delete undone
 restored-as : (keeps b : Bool) (s t u : List ℕ) (q : ℕ) → writtenAs q u ≡ pick keeps (pick b (refusedWrite t 19) (wrote s)) (refusedWrite t 11)
@@ -46,13 +57,13 @@ restored-as true true s t u q e = inr (ap (λ (x : Written). x .refusal) e, ap (
 restored-as true false s t u q e = inl (ap (λ (x : Written). x .refusal) e, ap (λ (x : Written). x .image) e)
 restored-as false b s t u q e = (ap (λ (x : Written). x .refusal) e, ap (λ (x : Written). x .image) e)
 
-pub undone : (s t u path : List ℕ) (stamp old : ℤ) (f : Entry) (r q : ℕ) → Bytes s → Finds s path f → Deletes s path stamp r t
+pub undone : (s t u path : List ℕ) (stamp old : ℤ) (f : Entry) (r q : ℕ) → Bytes s → Finds s path f → DeletesKeeping s path stamp r t
     → old ≡ f .stamp → Restores t path old q u → Undone s path stamp q u
-unfolding deleteOf done numbersOf
+unfolding deleteKeepOf onDeletable done numbersOf
 undone s t u path stamp old f r q bytes finds deletes same restores z =
-    let i = same-image r t (deleteOf s path stamp) deletes in
+    let i = same-image r t (deleteKeepOf s path stamp) deletes in
     let o = passed-opens s _ z in
-    let d = delete-passed s (o .0) path stamp (o .1) z in
+    let d = delete-passed s (o .0) path (deleted stamp) (o .1) z in
     let was : f .stamp ≡ d .it .stamp = ap (λ x. x .answer .stamp) (finds ∙ find-done s (o .0) (o .1) path (d .it) (d .named) (d .found)) in
     let keeps : Bool = keepsDeleted (o .0 .geometry .edition) in
     let b : Bool = any (deletedAt path) (entries (o .0)) in

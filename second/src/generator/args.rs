@@ -11,7 +11,7 @@ pub fn scene(w: &mut Writer) {
     w.mkfile(b"a/b", 700);
     w.mkfile(b"\xc3\xa9", 3);
     gone(w);
-    for _ in 0..14 {
+    for _ in 0..16 {
         path_argument(w);
     }
     for _ in 0..4 {
@@ -28,11 +28,11 @@ pub fn scene(w: &mut Writer) {
 fn gone(w: &mut Writer) {
     w.mkfile(b"\xc3\xa8", 4);
     w.mkdir(b"a/old");
-    w.delete(b"\xc3\xa8");
-    w.delete(b"a/old");
+    w.delete_keep(b"\xc3\xa8");
+    w.delete_keep(b"a/old");
     if w.rng.chance(30) {
         w.mkdir(b"\xc3\xa8");
-        w.delete(b"\xc3\xa8");
+        w.delete_either(b"\xc3\xa8", 80);
     }
 }
 
@@ -42,13 +42,14 @@ fn path_argument(w: &mut Writer) {
         7 | 8 => near_known(w),
         _ => w.rng.pick(&[b"a".as_slice(), b"a/b", b"\xc3\xa9", b"a/old", b"\xc3\xa8"]).to_vec(),
     };
-    match w.rng.below(8) {
+    match w.rng.below(9) {
         0 => w.find(&path),
         1 => w.read(&path),
         2 => w.delete(&path),
         3 => w.mkdir(&path),
         4 => w.mkfile(&path, 9),
         5 | 6 => w.restore(&path),
+        7 => w.delete_keep(&path),
         _ => w.put(format!("read {} 0", hex(&path))),
     };
 }

@@ -333,7 +333,7 @@ fn probe(w: &mut Writer) {
             17 => w.restore(&known.path),
             0 => w.find(&known.path),
             1 | 2 => w.read(&known.path),
-            3 => w.delete(&known.path),
+            3 => w.delete_either(&known.path, 50),
             4 => w.reclaim(),
             5 | 6 => create(w, true),
             7 => {
@@ -349,7 +349,7 @@ fn probe(w: &mut Writer) {
     regions::close(w);
 }
 
-/// Restores a deleted entry, or deletes a live one and undoes it to the byte.
+/// Restores a deleted entry, or deletes a live one and undoes it to the byte where it was kept.
 fn bring_back(w: &mut Writer) -> u8 {
     let deleted = w.deleted();
     if !deleted.is_empty() && w.rng.chance(75) {
@@ -359,7 +359,7 @@ fn bring_back(w: &mut Writer) -> u8 {
     }
     let live = w.live();
     let Known { path, stamp, .. } = w.rng.pick(&live);
-    w.delete(&path);
+    w.delete_either(&path, 90);
     w.restore_at(&path, stamp)
 }
 

@@ -96,7 +96,7 @@ pub fn some_image(w: &mut Writer) -> Vec<u8> {
 }
 
 /// Pokes the super-block and the index area; the blocks between keep what they have.
-fn lay(w: &mut Writer, from: &[u8], geometry: &Geometry) {
+pub fn lay(w: &mut Writer, from: &[u8], geometry: &Geometry) {
     let mut wanted = w.image().to_vec();
     for part in [0x180..0x1C0, geometry.slot_offset(0)..from.len()] {
         put(&mut wanted, part.start, &from[part]);
@@ -727,15 +727,15 @@ fn step(w: &mut Writer, crowd: &Crowd) -> u8 {
     }
 }
 
-/// Deletes a file or a directory, and at times undoes it to the byte.
+/// Deletes a file or a directory, and at times undoes it to the byte if it was kept.
 fn delete_one(w: &mut Writer, crowd: &Crowd, directory: bool) -> u8 {
     let choices: Vec<Known> = w.live().into_iter().filter(|known| known.directory == directory).collect();
     if choices.is_empty() {
         let path = crowd.some_path(&mut w.rng);
-        return w.delete(&path);
+        return w.delete_either(&path, 50);
     }
     let Known { path, stamp, .. } = w.rng.pick(&choices);
-    let refused = w.delete(&path);
+    let refused = w.delete_either(&path, 75);
     if refused == 0 && w.rng.chance(30) {
         return w.restore_at(&path, stamp);
     }

@@ -78,11 +78,11 @@ fn volume(w: &mut Writer, block: u64) -> Option<Healthy> {
     w.mkdir(&old);
     let long = if w.rng.chance(40) { vec![b'h'; directory_end] } else { text::across(&mut w.rng, directory_end) };
     w.mkdir(&[b"d/".to_vec(), long].concat());
-    w.delete(&gone);
-    w.delete(&old);
+    w.delete_keep(&gone);
+    w.delete_keep(&old);
     if w.rng.chance(20) {
         w.mkdir(&gone);
-        w.delete(&gone);
+        w.delete_keep(&gone);
     }
     if w.rng.chance(50) {
         unusable(w);
@@ -326,7 +326,7 @@ fn probe(w: &mut Writer, healthy: &Healthy) {
     let gone = w.rng.pick(&healthy.deleted).path;
     let serial = w.serial().to_string().into_bytes();
     for _ in 0..4 {
-        match w.rng.below(13) {
+        match w.rng.below(14) {
             0 => w.find(&path),
             1 | 2 => w.read(&path),
             3 => w.mkfile(&serial, 1),
@@ -337,6 +337,7 @@ fn probe(w: &mut Writer, healthy: &Healthy) {
             8 => w.restore(&path),
             9 | 10 => w.restore(&gone),
             11 => w.list_all(),
+            12 => w.delete_keep(&path),
             _ => {
                 w.list_each(3);
                 0

@@ -56,12 +56,12 @@ fn outputs(w: &mut Writer, name: u64, block: u64) {
     let length = w.rng.pick(&[0, 1, block - 1, block]);
     if w.mkfile(b"f", length) == 0 {
         around(w, &format!("read {}", hex(b"f")), length);
-        w.delete(b"f");
+        w.delete_either(b"f", 88);
         w.restore(b"f");
     }
     let length = w.rng.pick(&[1, 29, 30, 93, 94, 285]);
     let length = w.edge(length);
-    let path = if w.rng.chance(50) { vec![b'p'; length] } else { text::of_length(&mut w.rng, length) };
+    let path = if w.rng.chance(35) { vec![b'p'; length] } else { text::of_length(&mut w.rng, length) };
     let cut_off = text::cut_off(&mut w.rng, length);
     w.mkdir(&cut_off);
     if w.mkdir(&path) == 0 {
@@ -70,7 +70,7 @@ fn outputs(w: &mut Writer, name: u64, block: u64) {
         records(w);
     }
     w.put("read 66 17000".to_string());
-    w.delete(&path);
+    w.delete_either(&path, 85);
     if w.rng.chance(50) {
         w.restore(&path);
     }
@@ -100,6 +100,7 @@ fn cut(w: &mut Writer, length: u64) {
     w.put(format!("truncate {other}"));
     w.open();
     w.find(b"f");
+    w.delete_either(b"f", 50);
     w.restore(b"f");
     w.reclaim();
     w.put(format!("truncate {length}"));
@@ -122,6 +123,7 @@ pub fn cut_short(w: &mut Writer) {
     w.mkfile(b"f", 1);
     w.mkdir(b"g");
     w.delete(b"f");
+    w.delete_keep(b"f");
     w.restore(b"f");
     w.reclaim();
     w.listing();

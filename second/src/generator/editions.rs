@@ -57,7 +57,7 @@ fn order_by_calls(w: &mut Writer) {
     }
     for known in w.live().iter().filter(|known| !known.directory) {
         if w.rng.chance(70) {
-            w.delete(&known.path);
+            w.delete_either(&known.path, 60);
         }
     }
     if w.rng.chance(50) {
@@ -109,7 +109,7 @@ fn fill_in(w: &mut Writer, chain: &[&[u8]]) {
         if w.rng.chance(15) {
             let live = w.live();
             let path = w.rng.pick(&live).path;
-            w.delete(&path);
+            w.delete_either(&path, 50);
         }
     }
 }

@@ -14,6 +14,8 @@ enum Mode {
     Deep,
 }
 
+/// In a hundred deletes, how many keep.
+const KEEPING: u64 = 72;
 /// As edition 1.0 has them.
 const EDGE_LENGTHS: [usize; 12] = [1, 29, 30, 53, 54, 93, 94, 117, 118, 284, 285, 286];
 /// Bytes of a name up to the end of a slot, for files and for directories.
@@ -87,9 +89,9 @@ fn step(w: &mut Writer, mode: Mode, block: u64) {
         _ => {}
     }
     match w.rng.below(100) {
-        0..=26 => create_file(w, block),
-        27..=35 => create_directory(w),
-        36..=52 => delete(w),
+        0..=24 => create_file(w, block),
+        25..=33 => create_directory(w),
+        34..=52 => delete(w),
         53..=64 => bring_back(w),
         65..=70 => restore::story(w),
         71..=83 => look(w),
@@ -123,12 +125,12 @@ fn some_live(w: &mut Writer) -> Vec<u8> {
     w.rng.pick(&live).path
 }
 
-/// A deleted entry's path; if there is none, a live one is deleted.
+/// A deleted entry's path; if there is none, a live one is deleted and kept.
 fn some_deleted(w: &mut Writer) -> Vec<u8> {
     let deleted = w.deleted();
     if deleted.is_empty() {
         let path = some_live(w);
-        w.delete(&path);
+        w.delete_keep(&path);
         return path;
     }
     w.rng.pick(&deleted).path
@@ -213,12 +215,12 @@ fn create_directory(w: &mut Writer) {
 
 fn delete(w: &mut Writer) {
     let path = if w.rng.chance(85) { some_live(w) } else { new_path(w) };
-    w.delete(&path);
+    w.delete_either(&path, KEEPING);
     if w.rng.chance(10) {
-        w.delete(&path);
+        w.delete_either(&path, KEEPING);
     }
-    if w.rng.chance(15) {
-        // The same path again, while the deleted entry still holds its slots and blocks.
+    if w.rng.chance(20) {
+        // The same path again, at times while a deleted entry still holds its slots and blocks.
         w.mkfile(&path, 5);
     }
     if w.rng.chance(15) {
@@ -238,7 +240,7 @@ fn bring_back(w: &mut Writer) {
         w.read(&path);
     }
     if refused == 0 && w.rng.chance(20) {
-        w.delete(&path);
+        w.delete_either(&path, KEEPING);
     }
 }
 

@@ -17,7 +17,9 @@ mod spans;
 mod sums;
 mod tails;
 mod text;
+mod traces;
 mod volumes;
+mod wiping;
 
 pub use volumes::Volumes;
 
@@ -44,7 +46,7 @@ const fn family(name: &'static str, weight: u64, newer: u64, scene: Scene) -> Fa
     Family { name, weight, newer, scene }
 }
 
-const FAMILIES: [Family; 13] = [
+const FAMILIES: [Family; 14] = [
     family("history", 40, 35, history::scene),
     family("damage", 20, 35, damage::scene),
     family("built", 20, 35, built::scene),
@@ -58,7 +60,8 @@ const FAMILIES: [Family; 13] = [
     family("sums", 24, 100, sums::scene),
     family("editions", 16, 65, editions::scene),
     family("report", 10, 50, reports::scene),
-    family("regions", 10, 40, regions::scene),
+    family("regions", 14, 40, regions::scene),
+    family("wiping", 28, 45, wiping::scene),
 ];
 
 /// In a hundred calls of a scene, how many have report calls behind them; and the longest image that is so counted, as
@@ -270,12 +273,13 @@ impl Writer {
 
     /// One of the calls that take a path.
     pub fn any_call(&mut self, path: &[u8]) {
-        match self.rng.below(6) {
+        match self.rng.below(7) {
             0 => self.find(path),
             1 => self.read(path),
             2 => self.mkdir(path),
             3 => self.delete(path),
-            4 => self.restore(path),
+            4 => self.delete_keep(path),
+            5 => self.restore(path),
             _ => self.mkfile(path, 3),
         };
     }
@@ -298,6 +302,20 @@ impl Writer {
     pub fn delete(&mut self, path: &[u8]) -> u8 {
         let stamp = self.stamp();
         self.put(format!("delete {} {stamp}", hex(path)))
+    }
+
+    pub fn delete_keep(&mut self, path: &[u8]) -> u8 {
+        let stamp = self.stamp();
+        self.put(format!("deletekeep {} {stamp}", hex(path)))
+    }
+
+    /// One delete or the other: that which keeps in about `keeping` cases of a hundred.
+    pub fn delete_either(&mut self, path: &[u8], keeping: u64) -> u8 {
+        if self.rng.chance(keeping) {
+            self.delete_keep(path)
+        } else {
+            self.delete(path)
+        }
     }
 
     pub fn restore(&mut self, path: &[u8]) -> u8 {

@@ -58,15 +58,15 @@ fn allowed(w: &mut Writer) {
     if made != 0 || w.rng.chance(50) {
         return;
     }
-    w.delete(&path);
+    w.delete_either(&path, 80);
     if w.rng.chance(30) {
         w.reclaim();
     }
-    if w.rng.chance(40) {
+    if w.rng.chance(50) {
         w.mkdir(&path);
         w.open();
     }
-    if w.rng.chance(40) {
+    if w.rng.chance(50) {
         w.restore(&path);
         w.find(&path);
     }

@@ -124,7 +124,7 @@ fn delete_one(w: &mut Writer) -> Vec<u8> {
     files.retain(|known| !known.directory);
     let Known { path, .. } = w.rng.pick(&files);
     if !path.is_empty() {
-        w.delete(&path);
+        w.delete_either(&path, 70);
     }
     path
 }

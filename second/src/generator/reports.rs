@@ -111,6 +111,12 @@ fn laid(w: &mut Writer, make: fn(&mut Writer) -> Vec<u8>) {
         let deleted = w.deleted();
         let path = w.rng.pick(&deleted).path;
         w.restore(&path);
+        if w.rng.chance(40) {
+            let live = w.live();
+            let path = w.rng.pick(&live).path;
+            w.delete_either(&path, 50);
+            count(w);
+        }
         w.reclaim();
         count(w);
     }
@@ -151,7 +157,7 @@ fn full(w: &mut Writer) {
     w.mkfile(b"f", bytes);
     w.mkdir(b"d");
     count(w);
-    w.delete(b"f");
+    w.delete_either(b"f", 60);
     count(w);
 }
 

@@ -8,7 +8,7 @@ use crate::superblock::VERSION;
 
 type Story = fn(&mut Writer, &[u8]);
 
-const STORIES: [Story; 18] = [
+const STORIES: [Story; 20] = [
     at_once,
     later,
     to_the_byte,
@@ -27,6 +27,8 @@ const STORIES: [Story; 18] = [
     reformatted,
     arguments,
     relatives,
+    wiped,
+    wiped_and_kept,
 ];
 
 /// As edition 1.0 has them: lengths of names that take runs of one to five slots.
@@ -137,9 +139,14 @@ fn look(w: &mut Writer, path: &[u8]) {
     w.read(path);
 }
 
+/// Mostly a delete that keeps, as the stories are about what comes back.
+fn remove(w: &mut Writer, path: &[u8]) {
+    w.delete_either(path, 93);
+}
+
 fn at_once(w: &mut Writer, path: &[u8]) {
     make(w, path);
-    w.delete(path);
+    remove(w, path);
     w.restore(path);
     look(w, path);
     // Nothing deleted has the path any more.
@@ -149,7 +156,7 @@ fn at_once(w: &mut Writer, path: &[u8]) {
 fn later(w: &mut Writer, path: &[u8]) {
     make(w, path);
     meanwhile(w);
-    w.delete(path);
+    remove(w, path);
     make_another(w);
     meanwhile(w);
     w.restore(path);
@@ -161,7 +168,7 @@ fn to_the_byte(w: &mut Writer, path: &[u8]) {
     make(w, path);
     let stamp = w.live().iter().find(|known| known.path == path).map_or(0, |known| known.stamp);
     w.open();
-    w.delete(path);
+    remove(w, path);
     w.restore_at(path, stamp);
     look(w, path);
 }
@@ -169,12 +176,12 @@ fn to_the_byte(w: &mut Writer, path: &[u8]) {
 /// Live again by another creation, then deleted twice or more, then gone.
 fn made_again(w: &mut Writer, path: &[u8]) {
     make(w, path);
-    w.delete(path);
+    w.delete_keep(path);
     for _ in 0..1 + w.rng.below(2) {
         make(w, path);
         w.restore(path);
         meanwhile(w);
-        w.delete(path);
+        w.delete_keep(path);
         w.restore(path);
     }
     if w.rng.chance(50) {
@@ -191,7 +198,7 @@ fn file_and_directory(w: &mut Writer, path: &[u8]) {
         } else {
             w.mkdir(path);
         }
-        w.delete(path);
+        w.delete_keep(path);
     }
     w.restore(path);
     w.find(path);
@@ -199,13 +206,13 @@ fn file_and_directory(w: &mut Writer, path: &[u8]) {
 
 fn reclaimed(w: &mut Writer, path: &[u8]) {
     make(w, path);
-    w.delete(path);
+    remove(w, path);
     w.reclaim();
     w.restore(path);
     meanwhile(w);
     make(w, path);
     w.restore(path);
-    w.delete(path);
+    remove(w, path);
     w.restore(path);
     look(w, path);
 }
@@ -213,7 +220,7 @@ fn reclaimed(w: &mut Writer, path: &[u8]) {
 /// The slots have other numbers by the time of the restore.
 fn after_growth(w: &mut Writer, path: &[u8]) {
     make(w, path);
-    w.delete(path);
+    remove(w, path);
     for _ in 0..1 + w.rng.below(4) {
         let length = w.rng.pick(&[30, 93, 94, 285]);
         let serial = w.serial();
@@ -229,20 +236,20 @@ fn below(w: &mut Writer, path: &[u8]) {
     let child = inside(path, "x");
     w.mkdir(path);
     make(w, &child);
-    w.delete(&child);
-    w.delete(path);
+    remove(w, &child);
+    remove(w, path);
     w.restore(&child);
     meanwhile(w);
     w.restore(path);
     w.find(&child);
     w.list_each(4);
     if w.rng.chance(30) {
-        w.delete(path);
+        remove(w, path);
         w.restore(path);
     }
     w.restore(&child);
     look(w, &child);
-    w.delete(path);
+    remove(w, path);
 }
 
 /// Three levels, brought back in any order.
@@ -253,7 +260,7 @@ fn chain(w: &mut Writer, path: &[u8]) {
     w.mkdir(&middle);
     make(w, &leaf);
     for gone in [&leaf[..], &middle, path] {
-        w.delete(gone);
+        remove(w, gone);
     }
     for _ in 0..6 {
         let back = w.rng.pick(&[path, &middle, &leaf]).to_vec();
@@ -267,8 +274,8 @@ fn another_above(w: &mut Writer, path: &[u8]) {
     let child = inside(path, "x");
     w.mkdir(path);
     make(w, &child);
-    w.delete(&child);
-    w.delete(path);
+    remove(w, &child);
+    remove(w, path);
     make(w, path);
     w.restore(&child);
     w.restore(path);
@@ -281,9 +288,9 @@ fn twice_below(w: &mut Writer, path: &[u8]) {
     w.mkdir(path);
     for _ in 0..2 {
         make(w, &child);
-        w.delete(&child);
+        w.delete_keep(&child);
     }
-    w.delete(path);
+    remove(w, path);
     w.restore(&child);
     w.restore(path);
     w.restore(&child);
@@ -292,12 +299,12 @@ fn twice_below(w: &mut Writer, path: &[u8]) {
 fn deleted_again(w: &mut Writer, path: &[u8]) {
     make(w, path);
     for _ in 0..1 + w.rng.below(3) {
-        w.delete(path);
+        remove(w, path);
         w.restore(path);
     }
     meanwhile(w);
     if w.rng.chance(60) {
-        w.delete(path);
+        remove(w, path);
     }
     w.reclaim();
     w.restore(path);
@@ -314,7 +321,7 @@ fn between_others(w: &mut Writer, path: &[u8]) {
         w.mkfile(one, length);
     }
     for one in [&left[..], path, &right] {
-        w.delete(one);
+        remove(w, one);
     }
     w.restore(path);
     w.reclaim();
@@ -330,13 +337,13 @@ fn between_others(w: &mut Writer, path: &[u8]) {
 fn on_a_full_volume(w: &mut Writer, path: &[u8]) {
     let length = free_blocks(w) * block(w);
     w.mkfile(path, length);
-    w.delete(path);
+    remove(w, path);
     make_another(w);
     w.mkfile(b"one block", 1);
     w.restore(path);
     look(w, path);
     if w.rng.chance(60) {
-        w.delete(path);
+        remove(w, path);
         w.reclaim();
     }
 }
@@ -347,7 +354,7 @@ fn everything(w: &mut Writer, path: &[u8]) {
     let mut live = w.live();
     live.sort_by_key(|known| std::cmp::Reverse(known.path.len()));
     for known in live.iter().take(10) {
-        w.delete(&known.path);
+        remove(w, &known.path);
     }
     meanwhile(w);
     let mut deleted = w.deleted();
@@ -365,7 +372,7 @@ fn everything(w: &mut Writer, path: &[u8]) {
 
 fn reformatted(w: &mut Writer, path: &[u8]) {
     make(w, path);
-    w.delete(path);
+    remove(w, path);
     if w.rng.chance(40) {
         let name = volume_name(&mut w.rng);
         w.format(512, 2, &name);
@@ -375,7 +382,7 @@ fn reformatted(w: &mut Writer, path: &[u8]) {
 
 fn arguments(w: &mut Writer, path: &[u8]) {
     make(w, path);
-    w.delete(path);
+    remove(w, path);
     for _ in 0..3 {
         let odd = odd_path(&mut w.rng);
         w.restore(&odd);
@@ -386,7 +393,7 @@ fn arguments(w: &mut Writer, path: &[u8]) {
 /// Paths that are nearly the deleted one.
 fn relatives(w: &mut Writer, path: &[u8]) {
     make(w, path);
-    w.delete(path);
+    remove(w, path);
     let shorter = path[..path.len().saturating_sub(1)].to_vec();
     let others = [shorter, [path, b"x"].concat(), inside(path, "x"), [path, b"/"].concat(), [path, b"\0"].concat()];
     for other in others {
@@ -394,6 +401,36 @@ fn relatives(w: &mut Writer, path: &[u8]) {
     }
     w.restore(path);
     look(w, path);
+}
+
+/// Nothing comes back of what was wiped, and the path is free at once.
+fn wiped(w: &mut Writer, path: &[u8]) {
+    make(w, path);
+    meanwhile(w);
+    w.delete(path);
+    w.restore(path);
+    w.find(path);
+    make(w, path);
+    remove(w, path);
+    w.restore(path);
+    look(w, path);
+}
+
+/// What was kept of a path comes back when what was live later has been wiped.
+fn wiped_and_kept(w: &mut Writer, path: &[u8]) {
+    make(w, path);
+    w.delete_keep(path);
+    for _ in 0..1 + w.rng.below(2) {
+        make(w, path);
+        w.restore(path);
+        meanwhile(w);
+        w.delete(path);
+    }
+    w.restore(path);
+    look(w, path);
+    w.delete_either(path, 50);
+    w.reclaim();
+    w.restore(path);
 }
 
 /// A newer version, or entries marked deleted that no delete would have marked.

@@ -121,8 +121,8 @@ fn volume(w: &mut Writer) -> Option<Whole> {
     let across = text::across(&mut w.rng, end);
     w.mkdir(&across);
     w.mkfile(b"one", 3);
-    w.delete(b"gone");
-    w.delete(b"old");
+    w.delete_either(b"gone", 50);
+    w.delete_either(b"old", 50);
     w.put("history".to_string());
     if w.rng.chance(75) {
         let at = whole(w)?.unused.first().copied()?;
@@ -304,7 +304,7 @@ fn older_super_block(w: &mut Writer, magic: usize) {
 /// Any other version, or the right one, mostly with a right checksum.
 pub fn version(w: &mut Writer) {
     let any = w.rng.byte();
-    let version = w.rng.pick(&[0, 0x0F, 0x10, 0x11, 0x19, 0x1A, 0x1B, 0x20, 0x9A, 0xFF, any]);
+    let version = w.rng.pick(&[0, 0, 0x0E, 0x0F, 0x0F, 0x10, 0x11, 0x19, 0x1A, 0x1B, 0x20, 0x9A, 0xFF, any]);
     w.poke(w.edition.super_field(VERSION), &[version]);
     if w.rng.chance(85) {
         w.refit(w.edition);
@@ -387,7 +387,8 @@ fn probe(w: &mut Writer) {
         match w.rng.below(14) {
             0 => w.find(&path),
             1 | 2 => w.read(&path),
-            3 | 4 => w.delete(&path),
+            3 => w.delete(&path),
+            4 => w.delete_keep(&path),
             5 | 6 => w.reclaim(),
             7 => w.restore(&path),
             8 => w.listing(),
@@ -528,7 +529,7 @@ fn refused(w: &mut Writer) -> u8 {
         0 => w.mkfile(b"f", length),
         1 => w.mkfile(b"none/f", 3),
         2 => w.mkdir(b"none/d"),
-        _ => w.delete(b"none"),
+        _ => w.delete_either(b"none", 50),
     }
 }
 

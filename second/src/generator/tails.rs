@@ -368,7 +368,8 @@ fn call(w: &mut Writer, path: &[u8]) {
             w.mkfile(path, length)
         }
         12 => w.mkdir(path),
-        13..=15 => w.delete(path),
+        13 => w.delete(path),
+        14 | 15 => w.delete_keep(path),
         16..=18 => w.restore(path),
         _ => {
             let slot = w.rng.below(80);

@@ -100,7 +100,8 @@ impl Iterator for Volumes {
             return Some(self.of_sort(sort));
         }
         let mut image = self.of_sort(OLDER);
-        image.resize(self.rng.pick(&LENGTHS), 0);
+        // Every tenth volume or so is such a one, so that all the lengths come by turns.
+        image.resize(LENGTHS[self.given / 10 % LENGTHS.len()], 0);
         Some(image)
     }
 }

@@ -4,8 +4,8 @@
 use second::superblock::{self, CHECKSUM, DATA, INDEX};
 use second::Edition;
 use second::{
-    create_directory, create_file, delete, find, format, list, list_all, open, read, reclaim, restore, Found, Listed,
-    Opened, Read, Records,
+    create_directory, create_file, delete, delete_keep, find, format, list, list_all, open, read, reclaim, restore,
+    Found, Listed, Opened, Read, Records,
 };
 
 /// A freshly formatted image of zeros.
@@ -60,8 +60,8 @@ pub fn opens(image: &[u8]) -> u8 {
 }
 
 /// The refusal numbers of open, find, list, read, both creates, delete, restore and reclaim, each called on
-/// the image as it is. Asserts that a refusal gives zeros and writes nothing anywhere, and that list_all refuses the
-/// images that list refuses.
+/// the image as it is. Asserts that a refusal gives zeros and writes nothing anywhere, that the two deletes
+/// answer alike, and that list_all refuses the images that list refuses.
 pub fn all_calls(image: &[u8], path: &[u8]) -> [u8; 9] {
     let opened = lend(|output| {
         let answer = open(image, output);
@@ -85,6 +85,7 @@ pub fn all_calls(image: &[u8], path: &[u8]) -> [u8; 9] {
     let file = write(image, |image| create_file(image, path, 9, b"xyz").refusal);
     let directory = write(image, |image| create_directory(image, path, 9).refusal);
     let deleted = write(image, |image| delete(image, path, 9).refusal);
+    assert_eq!(write(image, |image| delete_keep(image, path, 9).refusal), deleted);
     let restored = write(image, |image| restore(image, path, 9).refusal);
     let reclaimed = write(image, |image| reclaim(image, 9).refusal);
     [opened, found.refusal, listed, got, file, directory, deleted, restored, reclaimed]

@@ -4,19 +4,14 @@ use mathlib.Core.Path.{_≡_, refl, sym, ap, _∙_}
 use mathlib.Core.Bool.{Bool, true, false, _&&_, _||_, not}
 use mathlib.Core.List.{List, map}
 use lib.Dec.{eqb}
-use lib.ListN.{length}
 use borrow.Author.Tests.{eqb-true}
-use Rattle.rules.specs.Lists.{only, All}
-use Rattle.rules.specs.SuperBlock.{Geometry, blockLength}
-use Rattle.rules.specs.SuperBlock.Laws.{GoodGeometry}
+use Rattle.rules.specs.Lists.{only}
 use Rattle.rules.specs.Index.{Entry, fileType, directoryType, runType, liveType, deletedType, typeFile, typeDirectory, typeDeletedFile, typeDeletedDirectory}
-use Rattle.rules.specs.Regions.{regionsSound}
 use Rattle.rules.specs.Paths.{isLive, isDeleted}
-use Rattle.after.specs.After.{isNamed, seen}
+use Rattle.rules.specs.Refusals.{Volume, entries}
+use Rattle.rules.specs.Writing.{undeleted}
+use Rattle.after.specs.After.{isNamed, seen, sight}
 use Rattle.laws.proofs.Lists.Parts.{only-only, only-ext, only-map}
-use Rattle.laws.proofs.Entries.Walked.{Bare}
-use Rattle.laws.proofs.Images.Kept.{Between}
-use Rattle.after.proofs.Sights.{seen-part}
 
 -- ---- a file or directory that is not deleted is live
 neither : (a b : Bool) → ((a || false) || (b || false)) ≡ (((a || false) || (b || false)) && (a || b))
@@ -39,12 +34,8 @@ unfolding isNamed isDeleted isLive
 live-named es =
     only-only isNamed (λ e. not (isDeleted e)) es ∙ only-ext _ _ (λ e. named-live (e .kind)) es ∙ sym (only-only isLive isNamed es)
 
--- ---- and seen as they were
-module _ (s t : List ℕ) (g h : Geometry) (good : GoodGeometry (length s) g) (same : Between s t g) (block : blockLength h ≡ blockLength g) where
-  pub all-kept : (es : List Entry) → All Bare es → regionsSound g es ≡ true
-      → map (seen t h) (only isNamed (only (λ e. not (isDeleted e)) es)) ≡ only (λ k. k .live) (map (seen s g) (only isNamed es))
-  unfolding seen
-  all-kept es b r =
-      seen-part s t g h good same block (λ e. not (isDeleted e)) es b r
-      ∙ ap (map (seen s g)) (live-named es)
-      ∙ sym (only-map (λ k. k .live) (seen s g) (only isNamed es))
+-- and seen as they were
+pub live-seen : (s : List ℕ) (v : Volume) → map (seen s (v .geometry)) (only isNamed (undeleted (entries v))) ≡ only (λ k. k .live) (sight s v)
+unfolding seen sight
+live-seen s v =
+    ap (map (seen s (v .geometry))) (live-named (entries v)) ∙ sym (only-map (λ k. k .live) (seen s (v .geometry)) (only isNamed (entries v)))

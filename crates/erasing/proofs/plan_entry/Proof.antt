@@ -8,13 +8,14 @@ use Rattle.rules.specs.SuperBlock.{writable}
 use Rattle.rules.specs.Paths.{lookup, anyBelow}
 use Rattle.rules.specs.Names.{pathGood}
 use Rattle.rules.specs.Refusals.{Volume, entries}
-use Rattle.rules.specs.Writing.Laws.{delete-later, delete-name, delete-none, delete-full, delete-done}
+use Rattle.rules.specs.Writing.Laws.{deletable-later, deletable-name, deletable-none, deletable-full, deletable-done}
 use Rattle.geometry.specs.View.{geometryView}
 use Rattle.slots.specs.View.{headView, HeadIn}
 use Rattle.index.specs.Steps.{Walks, entriesFrom}
 use Rattle.paths.specs.View.{searched-nothing, searched-entry}
 use Rattle.judging.specs.View.{volumeOf, opened-super, opened-walks, opened-entries, opened-paths}
-use Rattle.retyping.specs.Planned.{RetypePlanned, found-whole}
+use Rattle.retyping.specs.Planned.{found-whole}
+use Rattle.erasing.specs.Delete.{DeletePlanned, region-held}
 use borrow.Author.Needs.{needs}
 use Rattle.erasing.proofs.plan_entry.Statement.{statement}
 use Rattle.erasing.proofs.plan_entry.Tie as tie
@@ -70,16 +71,16 @@ is-writable-requires : tie.Need-is-writable-requires
 is-writable-requires c κs = search needs
 
 returns : tie.Need-returns
-unfolding RetypePlanned
-returns c = delete-later _ _ (c .before .before .before .before .pre) (sym (c .before .is-writable .ensures) ∙ not-true _ (c .if1 .taken)) _
+unfolding DeletePlanned
+returns c = deletable-later _ _ (c .before .before .before .before .pre) (sym (c .before .is-writable .ensures) ∙ not-true _ (c .if1 .taken)) _
 
 path-good-requires : tie.Need-path-good-requires
 path-good-requires c κs = search needs
 
 returns-2 : tie.Need-returns-2
-unfolding RetypePlanned
+unfolding DeletePlanned
 returns-2 c z = let p = c .before .before in
-    delete-name _ _ (first p .pre) (current p) _ z (sym (c .before .path-good .ensures) ∙ not-true _ (c .if2 .taken))
+    deletable-name _ _ (first p .pre) (current p) _ z (sym (c .before .path-good .ensures) ∙ not-true _ (c .if2 .taken))
 
 first-slot-requires : tie.Need-first-slot-requires
 first-slot-requires c κs = (opened-super _ _ (first (c .before .before .before) .pre), omega arith)
@@ -99,30 +100,30 @@ any-below-requires c κs = let k = c .before in
     (walks f, opened-paths _ _ (begun f .pre) (f .first-slot .result) (f .first-slot .ensures .0), found-from k, f .first-slot .ensures .6)
 
 returns-3 : tie.Need-returns-3
-unfolding RetypePlanned
+unfolding DeletePlanned
 returns-3 c z = let k = c .before .before .before in
     let f = sought k in
-    delete-full _ _ (begun f .pre) (current (held f .before .before)) _ z (good (held f)) _ (found k) (below (c .before) ∙ c .if3 .taken)
-
-plan-found-requires : tie.Need-plan-found-requires
-unfolding lookup
-plan-found-requires c κs = let k = passed c in
-    let x = begun (sought k) in
-    (x .pre, found-whole _ _ (x .pre) _ _ (found k) (lies k .low))
+    deletable-full _ _ (begun f .pre) (current (held f .before .before)) _ z (good (held f)) _ (found k) (below (c .before) ∙ c .if3 .taken)
 
 returns-4 : tie.Need-returns-4
-unfolding RetypePlanned
+unfolding DeletePlanned
 returns-4 c z = let f = c .before .before .before .before .before in
-    delete-none _ _ (begun f .pre) (current (held f .before .before)) _ z (good (held f))
+    deletable-none _ _ (begun f .pre) (current (held f .before .before)) _ z (good (held f))
     (ap (lookup _) (sym (entries-are f)) ∙ searched-nothing _ _ _ (c .before .before .lookup .ensures) (c .enum-told .given .1))
 
 returns-5 : tie.Need-returns-5
-unfolding headView
-returns-5 c = let e = c .before in
-    let k = passed e in
+unfolding DeletePlanned lookup headView
+returns-5 c =
+    let k = passed c in
     let f = sought k in
-    c .plan-found .ensures _
-    (λ z. delete-done _ _ (begun f .pre) (current (held f .before .before)) _ z (good (held f)) _ (found k) (below (e .before) ∙ e .if3 .left))
+    let x = begun f in
+    record {
+      opened = x .pre;
+      room = found-whole _ _ (x .pre) _ _ (found k) (lies k .low);
+      region = region-held _ _ (x .pre) _ _ (found k);
+      lives = found k;
+      outcome = λ write. deletable-done _ _ (x .pre) (current (held f .before .before)) _ write (good (held f)) _ (found k) (below (c .before) ∙ c .if3 .left);
+    }
 
 pub plan-entry-spec : {M : Type 1} → statement M
 plan-entry-spec =
@@ -141,6 +142,5 @@ plan-entry-spec =
     (λ c. search needs)
     any-below-requires
     returns-3
-    plan-found-requires
     returns-4
     returns-5)

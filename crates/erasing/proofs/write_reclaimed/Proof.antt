@@ -1,5 +1,6 @@
 use Rattle.judging.specs.View.{opened-super, opened-sound}
-use Rattle.erasing.specs.Reclaim.{least-index, tidied-opened, reclaimed-put}
+use Rattle.erasing.specs.Least.{least-index}
+use Rattle.erasing.specs.Reclaim.{tidied-opened, reclaimed-put}
 use borrow.Author.Needs.{needs}
 use Rattle.erasing.proofs.write_reclaimed.Statement.{statement}
 use Rattle.erasing.proofs.write_reclaimed.Tie as tie
@@ -10,7 +11,7 @@ tidy-requires c κs = let x = c .before .before .before .before .pre in (opened-
 write-least-requires : tie.Need-write-least-requires
 write-least-requires c κs =
     let x = c .before .before .before .before .before .before .before .before .pre in
-    (tidied-opened _ _ x _ (c .before .before .before .tidy .ensures), least-index _ _ _ _ (c .before .before .before .before .before .least-sizes .ensures))
+    (tidied-opened _ _ x _ (c .before .before .before .tidy .ensures), least-index _ _ _ _ _ (c .before .before .before .before .before .least-sizes .ensures))
 
 returns : tie.Need-returns
 returns c = reclaimed-put _ _ (c .before .before .before .before .before .before .before .before .before .before .before .pre) _ _ (c .before .before .before .before .before .before .before .before .least-sizes .ensures) _ _ (c .before .before .before .before .before .before .tidy .ensures) (c .before .before .write-least .ensures)

@@ -4,22 +4,23 @@ use mathlib.Core.Path.{_≡_}
 use native.Mathlib.Omega.{arith}
 use denote.Ref.{now}
 use Rattle.rules.specs.Lists.{All}
-use Rattle.rules.specs.Writing.{undeleted, leastEnd}
+use Rattle.rules.specs.Writing.{leastEnd}
 use Rattle.slots.specs.View.{headView}
 use Rattle.ordering.specs.Regions.{Small}
 use Rattle.index.specs.View.{SumsFrom}
 use Rattle.index.specs.Steps.{Walks, Step, entriesFrom, sums-step}
 use Rattle.index.specs.Turns.{told-end, told-found}
+use Rattle.free_runs.specs.View.{isGone, staying}
 use Rattle.free_runs.specs.Sums.{least-end, least-next, small-stored, small-next}
 use borrow.Author.Needs.{needs}
 use Rattle.free_runs.proofs.last_end.Statement.{statement}
 use Rattle.free_runs.proofs.last_end.Tie as tie
 
 abbrev Inv-loop : tie.InvT-loop
-Inv-loop img sums c₀ last₀ c last = Walks img c × All Small (entriesFrom img c) × (max (last .0) (leastEnd (undeleted (entriesFrom img c))) ≡ leastEnd (undeleted (entriesFrom img c₀))) × SumsFrom img sums c
+Inv-loop img sums gone c₀ last₀ c last = Walks img c × All Small (entriesFrom img c) × (max (last .0) (leastEnd (staying gone (entriesFrom img c))) ≡ leastEnd (staying gone (entriesFrom img c₀))) × SumsFrom img sums c
 
 abbrev μ-loop : tie.MeasureT-loop
-μ-loop img sums c₀ last₀ c last = c .left
+μ-loop img sums gone c₀ last₀ c last = c .left
 
 loop-holds : tie.Need-loop-holds Inv-loop μ-loop
 loop-holds c = let p = c .before .before .before .pre in (p .0, p .1, omega (arith, c .at .ensures), p .2)
@@ -27,7 +28,7 @@ loop-holds c = let p = c .before .before .before .pre in (p .0, p .1, omega (ari
 returns : tie.Need-returns Inv-loop μ-loop
 returns c =
     let n = c .before .before in
-    omega (arith, least-end _ (told-end _ _ _ (n .next-entry .ensures) (c .enum-told .given .1)), n .before .loop .inv .2)
+    omega (arith, least-end (isGone (n .before .before .before .before .before .args .gone)) _ (told-end _ _ _ (n .next-entry .ensures) (c .enum-told .given .1)), n .before .loop .inv .2)
 
 step : (c : tie.After-e Inv-loop μ-loop) → let l = c .before .before .before in
     Step (now (l .before .before .before .before .args .img)) (l .loop .c) (c .e .given .0 .0) (c .e .given .0 .1 .0)
@@ -41,7 +42,7 @@ loop-again : tie.Need-loop-again Inv-loop μ-loop
 loop-again c =
     let e = c .before .before .before in
     let l = e .before .before .before in
-    (step e .walks, small e .1, omega (arith, least-next _ _ _ (step e .entries), c .later .ensures, c .before .kept-end .ensures (now (l .before .before .before .before .args .img)), l .loop .inv .2), sums-step _ _ (l .loop .c) (l .loop .inv .3) _ _ (step e))
+    (step e .walks, small e .1, omega (arith, least-next (isGone (l .before .before .before .before .args .gone)) _ _ _ (step e .entries), c .later .ensures, c .before .kept-end .ensures (now (l .before .before .before .before .args .img)), l .loop .inv .2), sums-step _ _ (l .loop .c) (l .loop .inv .3) _ _ (step e))
 
 pub last-end-spec : {M : Type 1} → statement M
 last-end-spec =

@@ -1,4 +1,4 @@
--- Sound regions stay sound: in another order, with one entry more, with a live entry deleted, and without the deleted ones. Assumes nothing.
+-- Sound regions stay sound: in another order, with one entry more, with a live entry deleted, and with some of them only. Assumes nothing.
 use Prim.Native.Nat.{ℕ, _+_, _-_, _*_, _≤_, _<_}
 use mathlib.Core.Path.{_≡_, refl, sym, ap, ap₂, _∙_}
 use mathlib.Core.Bool.{Bool, true, false, _&&_, _||_, not}
@@ -17,8 +17,7 @@ use Rattle.rules.specs.Index.{Entry, fileType, typeFile, typeDirectory, typeUnu
 use Rattle.rules.specs.Regions.{holds, blocksOf, withinData, fileRegionGood, regionGood, apart, regionsSound, busy, runFree}
 use Rattle.rules.specs.Regions.Laws.{holds-says, apart-back, apart-before, apart-behind, none-apart, run-says}
 use Rattle.rules.specs.Index.Walk.{pick-both}
-use Rattle.rules.specs.Paths.{isDeleted}
-use Rattle.rules.specs.Writing.{undeleted, leastEnd}
+use Rattle.rules.specs.Writing.{leastEnd}
 use Rattle.laws.proofs.Lists.Every.{not-both, and-map, or-map, or-left, pick-map, all-weaken, all-of, all-and, all-each, all-only, pairs-only, all-says, all-holds, two-says, two-holds, none-passes, every-map, every-ext, two-map, two-ext, le-largest, largest-le}
 use Rattle.laws.proofs.Lists.Perms.{perm-every, perm-two}
 
@@ -276,22 +275,22 @@ sound-map g f s es =
 pub same-region : (e f : Entry) → f .kind ≡ e .kind → f .start ≡ e .start → f .end ≡ e .end → f .length ≡ e .length → SameRegion e f
 same-region e f k s n l = record { file = ap fileType k; unusable = ap (λ t. eqb t typeUnusable) k; start = s; end = n; length = l }
 
--- ---- without the deleted entries
+-- ---- with some of the entries, the data area trimmed to their regions
 trim-good : (g : Geometry) (n : ℕ) (e : Entry) → e .end ≤ n → regionGood g e ≡ true → regionGood (trimData g n) e ≡ true
 unfolding dataEnd trimData withData
 trim-good g n e l = good-to g (trimData g n) e refl refl (λ q. omega arith)
 
-pub sound-reclaim : (g : Geometry) (es : List Entry) → regionsSound g es ≡ true
-    → regionsSound (trimData g (leastEnd (undeleted es))) (undeleted es) ≡ true
+pub sound-trim : (g : Geometry) (q : Entry → Bool) (es : List Entry) → regionsSound g es ≡ true
+    → regionsSound (trimData g (leastEnd (only q es))) (only q es) ≡ true
 unfolding leastEnd
-sound-reclaim g es o =
-    let kept = undeleted es in
+sound-trim g q es o =
+    let kept = only q es in
     let p = sound-says g es o in
-    sound-holds (trimData g (leastEnd (undeleted es))) kept (record {
+    sound-holds (trimData g (leastEnd kept)) kept (record {
       each =
-          all-weaken (λ e. (e .end ≤ leastEnd (undeleted es)) × (regionGood g e ≡ true)) _ (λ e q. trim-good g (leastEnd (undeleted es)) e (q .0) (q .1)) kept
-          (all-and _ _ kept (le-largest (λ e. e .end) kept) (all-only _ (λ e. not (isDeleted e)) es (p .each)));
-      two = pairs-only (λ e f. apart e f ≡ true) (λ e. not (isDeleted e)) es (p .two);
+          all-weaken (λ e. (e .end ≤ leastEnd kept) × (regionGood g e ≡ true)) _ (λ e h. trim-good g (leastEnd kept) e (h .0) (h .1)) kept
+          (all-and _ _ kept (le-largest (λ e. e .end) kept) (all-only _ q es (p .each)));
+      two = pairs-only (λ e f. apart e f ≡ true) q es (p .two);
     })
 
 -- some of the entries
@@ -310,10 +309,10 @@ ends-fit g es s o =
     all-weaken (λ e. Settled e × (regionGood g e ≡ true)) _ (λ e q. end-fits g e (placed g e (q .0) (q .1))) es
     (all-and Settled _ es s (sound-says g es o .each))
 
-pub trim-fits : (g : Geometry) (es : List Entry) → All Settled es → regionsSound g es ≡ true → dataEnd (trimData g (leastEnd (undeleted es))) ≤ dataEnd g
+pub trim-fits : (g : Geometry) (q : Entry → Bool) (es : List Entry) → All Settled es → regionsSound g es ≡ true → dataEnd (trimData g (leastEnd (only q es))) ≤ dataEnd g
 unfolding dataEnd trimData withData leastEnd
-trim-fits g es s o =
-    let h : leastEnd (undeleted es) ≤ dataEnd g = largest-le (λ e. e .end) (dataEnd g) _ (all-only _ (λ e. not (isDeleted e)) es (ends-fit g es s o)) in
+trim-fits g q es s o =
+    let h : leastEnd (only q es) ≤ dataEnd g = largest-le (λ e. e .end) (dataEnd g) _ (all-only _ q es (ends-fit g es s o)) in
     omega arith
 
 -- ---- the geometries of create and reclaim

@@ -5,13 +5,13 @@ use mathlib.Core.Path.{_≡_, refl, sym, ap, _∙_}
 use mathlib.Core.Bool.{Bool, true, false, not}
 use mathlib.Core.List.{List, [], _∷_, _++_, append-assoc}
 use lib.ListN.{length}
-use Rattle.rules.specs.Lists.{pick, all, only, keepIf}
-use Rattle.rules.specs.Lists.Laws.{all-append, and-both}
+use Rattle.rules.specs.Lists.{pick, all, only, keepIf, All}
+use Rattle.rules.specs.Lists.Laws.{pick-true, pick-false, all-append, and-both}
 use Rattle.rules.specs.Fields.{splice}
 use Rattle.rules.specs.SuperBlock.{Geometry}
 use Rattle.rules.specs.SuperBlock.Laws.{GoodGeometry}
 use Rattle.rules.specs.Index.{Entry, Item, unused, stale, entry, fault, isFault, itemsOf, entriesOf, slotAt, unusedBytes}
-use Rattle.rules.specs.Writing.{cleared}
+use Rattle.rules.specs.Writing.{runCleared, cleared}
 use Rattle.laws.proofs.Lists.Parts.{all-parts}
 use Rattle.laws.proofs.Index.Items.{noFault, noFault-cons, isTidy, tidy, tidy-sound, tidy-swap}
 use Rattle.laws.proofs.Index.Places.{entriesOf-append}
@@ -112,3 +112,17 @@ module _ (p : Entry → Bool) where
   -- all of an index
   pub clear-all : (s : List ℕ) (g : Geometry) (is : List Item) → GoodGeometry (length s) g → itemsOf s g ≡ is → tidy is → Cleared s (cleared p s g (entriesOf is)) g (clearedItems p is)
   clear-all s g is good here sound = clear-rest g is s [] good here sound
+
+  -- ---- where one entry passes, it alone is cleared
+  pub cleared-none : (s : List ℕ) (g : Geometry) (es : List Entry) → All (λ e. p e ≡ false) es → cleared p s g es ≡ s
+  unfolding cleared pick
+  cleared-none s g [] all = refl
+  cleared-none s g (e ∷ es) all = rw (all .0) (cleared-none s g es (all .1))
+
+  pub cleared-one : (s : List ℕ) (g : Geometry) (pre : List Entry) (e : Entry) (post : List Entry) → All (λ f. p f ≡ false) pre → p e ≡ true → All (λ f. p f ≡ false) post
+      → cleared p s g (pre ++ (e ∷ post)) ≡ runCleared s g e
+  unfolding cleared
+  cleared-one s g [] e post before passes behind =
+      ap (λ (t : List ℕ). cleared p t g post) (pick-true _ _ passes) ∙ cleared-none (runCleared s g e) g post behind
+  cleared-one s g (f ∷ pre) e post before passes behind =
+      ap (λ (t : List ℕ). cleared p t g (pre ++ (e ∷ post))) (pick-false _ _ (before .0)) ∙ cleared-one s g pre e post (before .1) passes behind

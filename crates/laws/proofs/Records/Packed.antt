@@ -28,7 +28,8 @@ use Rattle.rules.specs.Reading.Laws.{list-refused, list-none, list-found, path-
 use Rattle.rules.specs.Records.{numberBytes, numbersBytes, recordBytes, recordOf, Recorded, stopAt, withRecord, recordStep, recordsFrom, RecordSteps, RecordsNumbers, noRecords, recordsOutcome, listAllOf}
 use Rattle.laws.proofs.Lists.Every.{all-only, all-chosen}
 use Rattle.laws.proofs.Index.Entries.{every-entry, run-path, unusable-kind}
-use Rattle.laws.proofs.Records.Rising.{Rising, live-next, entries-rise}
+use Rattle.laws.proofs.Index.Rising.{Rising, entries-rise}
+use Rattle.laws.proofs.Records.Rising.{live-next}
 
 -- ---- a record's length
 abbrev pub recordLength : Entry → ℕ

@@ -1,4 +1,4 @@
--- Entries stand in slot order: what list finds one after the other are the live entries from a slot on.
+-- What list finds one after the other are the live entries from a slot on, since entries stand in slot order.
 use Prim.Native.Nat.{ℕ, zero, suc, _+_, _-_, _*_, _≤_, _<_}
 use mathlib.Core.Path.{_≡_, refl, subst, _∙_}
 use mathlib.Core.Bool.{Bool, true, false}
@@ -15,47 +15,7 @@ use Rattle.rules.specs.Index.{Item, Entry, unused, stale, entry, fault, entryAt
 use Rattle.rules.specs.Index.Walk.{walkAll, slotsOf, slots-pos}
 use Rattle.rules.specs.Paths.{isLive, liveFrom}
 use Rattle.laws.proofs.Lists.Parts.{cons-head, cons-tail, nil-cons}
-use Rattle.laws.proofs.Index.Entries.{item-cases}
-
--- the first slots rise, from k on
-abbrev pub Rising : ℕ → List Entry → Type 0
-Rising k [] = Unit {0}
-Rising k (e ∷ es) = (k ≤ e .slot) × Rising (e .slot + 1) es
-
-rising-from : (k m : ℕ) (es : List Entry) → m ≤ k → Rising k es → Rising m es
-rising-from k m [] h r = tt
-rising-from k m (e ∷ es) h r = (omega (arith, r .0), r .1)
-
--- ---- of a walk
-module _ (ed : Edition) where
-  abbrev AtSlot : ℕ → Item → Type 0
-  AtSlot k (unused j) = Unit {0}
-  AtSlot k (stale j n) = Unit {0}
-  AtSlot k (entry e) = e .slot ≡ k
-  AtSlot k (fault j) = Unit {0}
-
-  at-slot : (left k : ℕ) (a : List ℕ) → AtSlot k (itemAt ed left k a)
-  unfolding entryAt unusableAt
-  at-slot left k a = item-cases ed left k a (AtSlot k) (λ e r. rw (r .made)) (λ e u. rw (u .made)) tt tt tt
-
-  rising-followed : (k : ℕ) (i : Item) (rest : ℕ → List Item) → AtSlot k i → 1 ≤ slotsOf i → ((n : ℕ) → Rising (k + n) (entriesOf (rest n))) → Rising k (entriesOf (followed i rest))
-  unfolding followed entriesOf slotsOf
-  rising-followed k (unused j) rest h p r = rising-from (k + 1) k (entriesOf (rest 1)) (omega arith) (r 1)
-  rising-followed k (stale j n) rest h p r = rising-from (k + n) k (entriesOf (rest n)) (omega arith) (r n)
-  rising-followed k (entry e) rest h p r = (omega (arith, h), rising-from (k + e .slots) (e .slot + 1) (entriesOf (rest (e .slots))) (omega (arith, h, p)) (r (e .slots)))
-  rising-followed k (fault j) rest h p r = tt
-
-  rising-walk : (steps left k : ℕ) (a : List ℕ) → Rising k (entriesOf (walk ed steps left k a))
-  unfolding walk entriesOf
-  rising-walk zero left k a = tt
-  rising-walk (suc steps) zero k a = tt
-  rising-walk (suc steps) (suc left) k a =
-      rising-followed k (itemAt ed (suc left) k a) _ (at-slot (suc left) k a) (slots-pos ed (suc left) k a)
-      (λ n. rising-walk steps (suc left - n) (k + n) (drop (slotBytes * n) a))
-
-pub entries-rise : (s : List ℕ) (g : Geometry) → Rising 1 (entriesOf (itemsOf s g))
-unfolding itemsOf walkAll
-entries-rise s g = rising-walk (g .edition) _ _ 1 _
+use Rattle.laws.proofs.Index.Rising.{Rising, rising-from}
 
 -- ---- the live ones from a slot on
 from-same : (j m : ℕ) (e : Entry) → j ≤ e .slot → m ≤ e .slot → liveFrom j e ≡ liveFrom m e

@@ -9,7 +9,7 @@ use lib.Dec.{leb}
 use lib.IntN.{ℤ}
 use Rattle.rules.specs.Lists.{only, first, isSome}
 use Rattle.rules.specs.Editions.{versionNamed, editionNamed}
-use Rattle.rules.specs.SuperBlock.{Geometry, lengthGood, fieldOf, geometryGood, trimData, restamp, putSizes, writable}
+use Rattle.rules.specs.SuperBlock.{Geometry, lengthGood, fieldOf, geometryGood, putSizes, writable}
 use Rattle.rules.specs.Names.{pathGood, newPathGood, volumeNameGood, leading}
 use Rattle.rules.specs.Index.{Entry, slotAt}
 use Rattle.rules.specs.Paths.{isDeleted, deletedAt, lookup, anyBelow}
@@ -17,7 +17,7 @@ use Rattle.rules.specs.Refusals.{refused, accepted, Volume, entries, jud
 use Rattle.rules.specs.Refusals.Laws.{need-true, need-false, found-none, found-some}
 use Rattle.rules.specs.Outcome.{done}
 use Rattle.rules.specs.Outcome.Laws.{denied, conclude-refused, conclude-accepted, volume-refused, volume-denied, volume-done}
-use Rattle.rules.specs.Writing.{Written, New, tidied, formatOf, freshGeometry, formatted, createOf, nearestLive, newSlots, newBlocks, Place, placeRun, placeFile, siteOf, created, deleteOf, deleted, restoreOf, restored, reclaimOf, undeleted, leastEnd, cleared}
+use Rattle.rules.specs.Writing.{Written, New, tidied, formatOf, freshGeometry, formatted, createOf, nearestLive, newSlots, newBlocks, Place, placeRun, placeFile, siteOf, created, trimmedTo, onDeletable, restoreOf, restored, reclaimOf, undeleted, cleared}
 
 abbrev pub refusedWrite : List ℕ → ℕ → Written
 refusedWrite s n = denied tt s [] n
@@ -69,9 +69,9 @@ module _ (s : List ℕ) (n : ℕ) (bad : judge s ≡ refused n) where
   unfolding createOf
   create-refused new path stamp = volume-refused tt s [] _ n bad
 
-  pub delete-refused : (path : List ℕ) (stamp : ℤ) → deleteOf s path stamp ≡ refusedWrite s n
-  unfolding deleteOf
-  delete-refused path stamp = volume-refused tt s [] _ n bad
+  pub deletable-refused : (path : List ℕ) (write : List ℕ → Volume → Entry → List ℕ) → onDeletable s path write ≡ refusedWrite s n
+  unfolding onDeletable
+  deletable-refused path write = volume-refused tt s [] _ n bad
 
   pub restore-refused : (path : List ℕ) (stamp : ℤ) → restoreOf s path stamp ≡ refusedWrite s n
   unfolding restoreOf
@@ -88,9 +88,9 @@ module _ (s : List ℕ) (v : Volume) (opens : judge s ≡ accepted v) where
     unfolding createOf
     create-later new path stamp = volume-denied tt s [] _ v 9 opens (need-false 9 _ later)
 
-    pub delete-later : (path : List ℕ) (stamp : ℤ) → deleteOf s path stamp ≡ refusedWrite s 9
-    unfolding deleteOf
-    delete-later path stamp = volume-denied tt s [] _ v 9 opens (need-false 9 _ later)
+    pub deletable-later : (path : List ℕ) (write : List ℕ → Volume → Entry → List ℕ) → onDeletable s path write ≡ refusedWrite s 9
+    unfolding onDeletable
+    deletable-later path write = volume-denied tt s [] _ v 9 opens (need-false 9 _ later)
 
     pub restore-later : (path : List ℕ) (stamp : ℤ) → restoreOf s path stamp ≡ refusedWrite s 9
     unfolding restoreOf
@@ -143,25 +143,27 @@ module _ (s : List ℕ) (v : Volume) (opens : judge s ≡ accepted v) where
                   volume-done tt s [] _ v _ opens
                   (need-true 9 _ may ∙ need-true 10 _ p ∙ need-true 12 _ free ∙ need-true 13 _ d ∙ found-some 15 _ r ∙ found-some 16 _ b)
 
-    module _ (path : List ℕ) (stamp : ℤ) where
-      pub delete-name : pathGood path ≡ false → deleteOf s path stamp ≡ refusedWrite s 10
-      unfolding deleteOf
-      delete-name p = volume-denied tt s [] _ v 10 opens (need-true 9 _ may ∙ need-false 10 _ p)
+    -- both deletes, whatever they write
+    module _ (path : List ℕ) (write : List ℕ → Volume → Entry → List ℕ) where
+      pub deletable-name : pathGood path ≡ false → onDeletable s path write ≡ refusedWrite s 10
+      unfolding onDeletable
+      deletable-name p = volume-denied tt s [] _ v 10 opens (need-true 9 _ may ∙ need-false 10 _ p)
 
       module _ (p : pathGood path ≡ true) where
-        pub delete-none : lookup path (entries v) ≡ none → deleteOf s path stamp ≡ refusedWrite s 11
-        unfolding deleteOf
-        delete-none f = volume-denied tt s [] _ v 11 opens (need-true 9 _ may ∙ need-true 10 _ p ∙ found-none 11 _ f)
+        pub deletable-none : lookup path (entries v) ≡ none → onDeletable s path write ≡ refusedWrite s 11
+        unfolding onDeletable
+        deletable-none f = volume-denied tt s [] _ v 11 opens (need-true 9 _ may ∙ need-true 10 _ p ∙ found-none 11 _ f)
 
         module _ (e : Entry) (f : lookup path (entries v) ≡ some e) where
-          pub delete-full : anyBelow path (entries v) ≡ true → deleteOf s path stamp ≡ refusedWrite s 14
-          unfolding deleteOf
-          delete-full b = volume-denied tt s [] _ v 14 opens (need-true 9 _ may ∙ need-true 10 _ p ∙ found-some 11 _ f ∙ need-false 14 _ (rw b))
+          pub deletable-full : anyBelow path (entries v) ≡ true → onDeletable s path write ≡ refusedWrite s 14
+          unfolding onDeletable
+          deletable-full b = volume-denied tt s [] _ v 14 opens (need-true 9 _ may ∙ need-true 10 _ p ∙ found-some 11 _ f ∙ need-false 14 _ (rw b))
 
-          pub delete-done : anyBelow path (entries v) ≡ false → deleteOf s path stamp ≡ wrote (deleted (v .geometry .edition) (tidyImage s v) (slotAt (tidyImage s v) (v .geometry) (e .slot)) e stamp)
-          unfolding deleteOf
-          delete-done b = volume-done tt s [] _ v _ opens (need-true 9 _ may ∙ need-true 10 _ p ∙ found-some 11 _ f ∙ need-true 14 _ (rw b))
+          pub deletable-done : anyBelow path (entries v) ≡ false → onDeletable s path write ≡ wrote (write (tidyImage s v) v e)
+          unfolding onDeletable
+          deletable-done b = volume-done tt s [] _ v _ opens (need-true 9 _ may ∙ need-true 10 _ p ∙ found-some 11 _ f ∙ need-true 14 _ (rw b))
 
+    module _ (path : List ℕ) (stamp : ℤ) where
       pub restore-name : pathGood path ≡ false → restoreOf s path stamp ≡ refusedWrite s 10
       unfolding restoreOf
       restore-name p = volume-denied tt s [] _ v 10 opens (need-true 9 _ may ∙ need-false 10 _ p)
@@ -198,7 +200,7 @@ module _ (s : List ℕ) (v : Volume) (opens : judge s ≡ accepted v) where
                   (need-true 9 _ may ∙ need-true 10 _ p ∙ found-some 11 _ f ∙ need-true 12 _ (rw l) ∙ need-true 13 _ d ∙ need-true 19 _ n)
 
     pub reclaim-done : (stamp : ℤ)
-        → let g : Geometry = restamp (v .geometry) (trimData (v .geometry) (leastEnd (undeleted (entries v)))) stamp in
+        → let g : Geometry = trimmedTo (undeleted (entries v)) (v .geometry) stamp in
         reclaimOf s stamp ≡ wrote (cleared isDeleted (putSizes (tidyImage s v) g) g (entries v))
     unfolding reclaimOf
     reclaim-done stamp = volume-done tt s [] _ v _ opens (need-true 9 _ may)

@@ -2,8 +2,8 @@ use mathlib.Core.Path.{ap, _∙_}
 use denote.Ref.{now}
 use mir.Syntax.{w64}
 use mir.ValLaws.{toZ-ofZ}
-use Rattle.rules.specs.Writing.{deleteOf}
-use Rattle.contracts.specs.Contracts.{Deletes}
+use Rattle.rules.specs.Writing.{deleteKeepOf}
+use Rattle.contracts.specs.Contracts.{DeletesKeeping}
 use Rattle.undoing.proofs.Calls.{not-deleted, undone}
 use borrow.Author.Needs.{needs}
 use Rattle.undoing.proofs.delete_undone.Statement.{statement}
@@ -13,13 +13,13 @@ use Rattle.undoing.proofs.delete_undone.Tie as tie
 abbrev begun : tie.After-sfs-find → tie.Start
 begun c = c .before .before .before .before
 
-abbrev found : tie.After-sfs-delete → tie.After-sfs-find
+abbrev found : tie.After-sfs-delete-keep → tie.After-sfs-find
 found c = c .before .before
 
-deletes : (c : tie.After-sfs-delete) → let x = begun (found c) in
-    Deletes (now (x .args .image)) (now (x .args .path)) (x .args .stamp) (c .sfs-delete .result) (c .sfs-delete .last .0)
+deletes : (c : tie.After-sfs-delete-keep) → let x = begun (found c) in
+    DeletesKeeping (now (x .args .image)) (now (x .args .path)) (x .args .stamp) (c .sfs-delete-keep .result) (c .sfs-delete-keep .last .0)
 deletes c = let x = begun (found c) in
-    c .sfs-delete .ensures ∙ ap (deleteOf (now (x .args .image)) (now (x .args .path))) (toZ-ofZ w64 (x .args .stamp) (x .fits .stamp))
+    c .sfs-delete-keep .ensures ∙ ap (deleteKeepOf (now (x .args .image)) (now (x .args .path))) (toZ-ofZ w64 (x .args .stamp) (x .fits .stamp))
 
 returns : tie.Need-returns
 returns c = not-deleted _ _ _ _ _ (deletes (c .before .before .before)) (c .if1 .taken)
