@@ -42,9 +42,9 @@ not-reclaimed s t stamp r e n z = absurd (n (same-refusal r t (reclaimOf s stamp
 -- ---- nothing left
 pub leaves-nothing : (s t path : List ℕ) (stamp : ℤ) (r : ℕ) → Deletes s path stamp r t → LeavesNothing s path r t
 unfolding deleteOf onDeletable
-leaves-nothing s t path stamp r deletes accepted =
+leaves-nothing s t path stamp r deletes served =
     let w : Written = deleteOf s path stamp in
-    let z : w .refusal ≡ 0 = sym (same-refusal r t w deletes) ∙ accepted in
+    let z : w .refusal ≡ 0 = sym (same-refusal r t w deletes) ∙ served in
     let o = passed-opens s _ z in
     let d = delete-passed s (o .0) path (wiped path stamp) (o .1) z in
     (o .0, d .it, o .1, d .found, subst (λ (u : List ℕ). Wiped u (o .0 .geometry) (d .it)) (same-image r t w deletes) (delete-wipes s (o .0) path (d .it) stamp (o .1) (d .found) z))
