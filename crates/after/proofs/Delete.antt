@@ -17,7 +17,7 @@ use Rattle.rules.specs.Index.{Entry, slotBytes, slotAt, unusedBytes}
 use Rattle.rules.specs.Index.Laws.{length-unusedBytes}
 use Rattle.rules.specs.Regions.{blocksOf, regionGood, apart}
 use Rattle.rules.specs.Paths.{liveAt, lookup, anyBelow}
-use Rattle.rules.specs.Refusals.{accepted, Volume, entries, judge}
+use Rattle.rules.specs.Refusals.{accepted, Volume, entries}
 use Rattle.rules.specs.Refusals.Laws.{Opens, judge-opens, opens-judge}
 use Rattle.rules.specs.Writing.{runCleared, regionCleared, trimmedTo, without, wiped, deleteOf, Wiped, DeleteWipes}
 use Rattle.rules.specs.Writing.Laws.{tidyImage}

@@ -1,22 +1,19 @@
 -- An accepted delete that keeps leaves an image that opens, with its entry marked deleted, or struck where deleted entries are not kept.
 use Prim.Native.Nat.{ℕ}
-use mathlib.Core.Path.{_≡_, refl, ap, subst, _∙_}
+use mathlib.Core.Path.{_≡_, refl, ap, _∙_}
 use mathlib.Core.Bool.{Bool, true, false, _&&_, not}
-use mathlib.Core.List.{List, _∷_, _++_, map}
+use mathlib.Core.List.{List, map}
 use mathlib.Core.Option.{some}
-use native.Mathlib.Omega.{arith}
-use borrow.Author.Tests.{not-true}
 use lib.IntN.{ℤ}
-use Rattle.rules.specs.Lists.{pick, only, eqList, All}
+use Rattle.rules.specs.Lists.{pick, only, eqList}
 use Rattle.rules.specs.Lists.Laws.{and-true, pick-true, pick-false}
 use Rattle.rules.specs.Fields.{splice}
 use Rattle.rules.specs.Editions.{keepsDeleted}
 use Rattle.rules.specs.SuperBlock.{blockLength}
 use Rattle.rules.specs.SuperBlock.Laws.{storedStamp}
-use Rattle.rules.specs.Names.{pathGood}
-use Rattle.rules.specs.Index.{Entry, entry, entriesOf, slotAt, unusedBytes, retyped}
-use Rattle.rules.specs.Paths.{isLive, liveAt, lookup, anyBelow, pathsSound}
-use Rattle.rules.specs.Refusals.{accepted, Volume, entries, judge}
+use Rattle.rules.specs.Index.{Entry, entry, slotAt, unusedBytes, retyped}
+use Rattle.rules.specs.Paths.{isLive, liveAt, lookup, anyBelow}
+use Rattle.rules.specs.Refusals.{accepted, Volume, entries}
 use Rattle.rules.specs.Refusals.Laws.{Opens, judge-opens}
 use Rattle.rules.specs.Writing.{deletedKind, deleted, deleteKeepOf}
 use Rattle.rules.specs.Writing.Laws.{tidyImage}
@@ -24,12 +21,9 @@ use Rattle.rules.specs.History.{keptAt, marked}
 use Rattle.after.specs.After.{seen, Left, sight, unusables, AfterDeleteKeep}
 use Rattle.laws.proofs.Lists.Every.{all-of, pick-by}
 use Rattle.laws.proofs.Index.Entries.{retypedEntry}
-use Rattle.laws.proofs.Index.Places.{Found, first-split, entriesOf-append}
 use Rattle.laws.proofs.Entries.EntryKinds.{deleted-gone}
-use Rattle.laws.proofs.Entries.Paths.{liveAt-says, live-alone, paths-says}
 use Rattle.laws.proofs.Entries.Retyping.{retype-by}
 use Rattle.laws.proofs.Entries.Deleting.{deleteAt, deletes, delete-paths}
-use Rattle.laws.proofs.Images.Accepted.{passed-need, passed-found, passed-writable, passed-done}
 use Rattle.laws.proofs.Images.Live.{place, others}
 use Rattle.laws.proofs.Images.Tidying.{settledVolume, settled-entries, opens-settled, tidied-kept, tidied-opens}
 use Rattle.after.proofs.Tidied.{sight-tidied, unusables-tidied}

@@ -2,23 +2,20 @@
 -- for that entry.
 use Prim.Native.Nat.{ℕ}
 use mathlib.Core.Path.{_≡_, refl, sym, ap, _∙_}
-use mathlib.Core.Bool.{Bool, true, false, _&&_, not}
+use mathlib.Core.Bool.{Bool, false, not}
 use mathlib.Core.List.{List, [], _∷_, _++_, map}
 use mathlib.Core.Option.{some}
-use borrow.Author.Tests.{eqb-true}
-use Rattle.rules.specs.Lists.{only, eqList, All}
-use Rattle.rules.specs.Lists.Laws.{and-left}
+use Rattle.rules.specs.Lists.{only}
 use Rattle.rules.specs.Fields.{splice}
 use Rattle.rules.specs.SuperBlock.{Geometry, blockLength}
-use Rattle.rules.specs.Index.{Entry, Item, entry, itemsOf, entriesOf, slotAt, unusedBytes, liveType, typeUnusable}
+use Rattle.rules.specs.Index.{Entry, Item, entry, itemsOf, entriesOf, slotAt, unusedBytes}
 use Rattle.rules.specs.Paths.{liveAt, lookup, anyBelow}
 use Rattle.rules.specs.Refusals.{Volume, entries}
 use Rattle.rules.specs.Writing.{without}
 use Rattle.rules.specs.Refusals.Laws.{Opens, opens-judge, opens-super}
-use Rattle.rules.specs.History.{Kept, keptAt}
-use Rattle.after.specs.After.{isNamed, seen, isUnusable, Left, sight, unusables}
-use Rattle.laws.proofs.Lists.Parts.{all-parts, only-only, only-ext, only-map}
-use Rattle.laws.proofs.Lists.Every.{none-passes, all-weaken, only-but}
+use Rattle.rules.specs.History.{keptAt}
+use Rattle.after.specs.After.{isNamed, seen, Left, sight, unusables}
+use Rattle.laws.proofs.Lists.Parts.{all-parts}
 use Rattle.laws.proofs.Lists.Perms.{perm-of}
 use Rattle.laws.proofs.Index.Items.{isTidy, tidy, tidy-sound, tidy-swap}
 use Rattle.laws.proofs.Index.Places.{Found, entriesOf-append}

@@ -1,6 +1,6 @@
 -- What a delete comes to before it writes, and what the plain one then leaves.
 use Prim.Native.Nat.{ℕ, _+_, _-_, _*_, _^_, _≤_, _<_}
-use mathlib.Core.Path.{_≡_, sym, ap, ap₂, _∙_}
+use mathlib.Core.Path.{_≡_, sym, ap, _∙_}
 use mathlib.Core.List.{List, []}
 use mathlib.Core.Logic.{_⊎_, inl, inr}
 use mathlib.Core.Option.{some}
@@ -12,13 +12,13 @@ use Rattle.rules.specs.Lists.{padded}
 use Rattle.rules.specs.Fields.{splice}
 use Rattle.rules.specs.Fields.Laws.{length-splice}
 use Rattle.rules.specs.SuperBlock.{Geometry, blockLength, putSizes}
-use Rattle.rules.specs.SuperBlock.Laws.{GoodGeometry, block-low}
-use Rattle.rules.specs.Index.{Entry, slotBytes, slotAt, unusedBytes}
+use Rattle.rules.specs.SuperBlock.Laws.{block-low}
+use Rattle.rules.specs.Index.{Entry, slotAt, unusedBytes}
 use Rattle.rules.specs.Regions.{blocksOf}
 use Rattle.rules.specs.Paths.{lookup}
 use Rattle.rules.specs.Refusals.{Volume, entries}
 use Rattle.rules.specs.Refusals.Laws.{Opens, judge-opens}
-use Rattle.rules.specs.Writing.{Written, onDeletable, regionCleared, trimmedTo, without, wiped}
+use Rattle.rules.specs.Writing.{onDeletable, regionCleared, trimmedTo, without, wiped}
 use Rattle.rules.specs.Writing.Laws.{refusedWrite, wrote}
 use Rattle.laws.proofs.Index.Slots.{slot-at}
 use Rattle.laws.proofs.Entries.Regions.{Regionless, Within, region-bytes}
@@ -50,7 +50,7 @@ pub record RegionHeld (n : ℕ) (g : Held) (h : Head) : Type 0 where
 abbrev pub Writes : Type 0
 Writes = List ℕ → Volume → Entry → List ℕ
 
-pub record Going (s path : List ℕ) (g : Held) (h : Head) : Type 0 where
+pub record DeleteFound (s path : List ℕ) (g : Held) (h : Head) : Type 0 where
   pub opened : Opened s g
   pub room : HasRoom s g h
   pub region : RegionHeld (length s) g h
@@ -59,16 +59,16 @@ pub record Going (s path : List ℕ) (g : Held) (h : Head) : Type 0 where
 
 unfoldable pub DeletePlanned : List ℕ → List ℕ → Deletable → Type 0
 DeletePlanned s path (Refused n) = (write : Writes) → onDeletable s path write ≡ refusedWrite s n
-DeletePlanned s path (found g h) = Going s path g h
+DeletePlanned s path (found g h) = DeleteFound s path g h
 
 module _ (s path : List ℕ) (r : Deletable) (p : DeletePlanned s path r) where
   pub plan-refused : (n : ℕ) → r ≡ Refused n → (write : Writes) → onDeletable s path write ≡ refusedWrite s n
   unfolding DeletePlanned
   plan-refused n e = rw e at p
 
-  pub plan-going : (g : Held) (h : Head) → r ≡ found g h → Going s path g h
+  pub plan-entry : (g : Held) (h : Head) → r ≡ found g h → DeleteFound s path g h
   unfolding DeletePlanned
-  plan-going g h e = rw e at p
+  plan-entry g h e = rw e at p
 
 -- ---- an entry that was found
 module _ (s : List ℕ) (g : Held) (o : Opened s g) (path : List ℕ) (h : Head) (f : lookup path (entries (volumeOf s (geometryView g))) ≡ some (headView s h)) where

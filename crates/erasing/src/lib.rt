@@ -139,17 +139,18 @@ fn clear_region(img: &mut [u8], g: Geometry, h: Head)
     ensures { λ _. ⌜ ((s : List ℕ) → now (img .exit) ≡ regionCleared (now (img .entry)) (geometryView g) (headView s h)) ⌝ }
 {
     let len = g.block_length();
-    copying::write_blocks(img, len, h.start, slots::past_end(h), b"");
+    let past = slots::past_end(h);
+    copying::write_blocks(img, len, h.start, past, b"");
 }
 
 // Zeros for the entry's blocks, these sizes, and unused slots for its run, whose first is at this place.
-fn put_wiped(img: &mut [u8], g: Geometry, least: Geometry, h: Head, at: Offset)
+fn put_wiped(img: &mut [u8], g: Geometry, trimmed: Geometry, h: Head, at: Offset)
     requires { ⌜ RegionHeld (length (now img)) g h × (512 ≤ length (now img)) × (at .0 + slotBytes * h .slots ≤ length (now img)) ⌝ }
-    ensures { λ _. ⌜ ((s : List ℕ) → now (img .exit) ≡ wipedAt (now (img .entry)) (geometryView g) (geometryView least) (headView s h) (at .0)) ⌝ }
+    ensures { λ _. ⌜ ((s : List ℕ) → now (img .exit) ≡ wipedAt (now (img .entry)) (geometryView g) (geometryView trimmed) (headView s h) (at .0)) ⌝ }
 {
     clear_region(img, g, h);
-    super_block::put_sizes(img, least);
-    runs::clear_run(img, least.edition, at, h.slots);
+    super_block::put_sizes(img, trimmed);
+    runs::clear_run(img, trimmed.edition, at, h.slots);
 }
 
 // All of it, once the image is tidied.

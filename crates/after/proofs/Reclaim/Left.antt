@@ -1,19 +1,18 @@
 -- An accepted reclaim leaves an image that opens, with its live entries as they were.
 use Prim.Native.Nat.{ℕ}
-use mathlib.Core.Path.{_≡_, sym, ap, subst, _∙_}
-use mathlib.Core.Bool.{true, not}
-use mathlib.Core.List.{List, map}
+use mathlib.Core.Path.{_≡_, sym, ap, _∙_}
+use mathlib.Core.Bool.{not}
+use mathlib.Core.List.{List}
 use lib.IntN.{ℤ}
-use Rattle.rules.specs.Lists.{only}
-use Rattle.rules.specs.SuperBlock.{Geometry, blockLength, withStamp, putSizes}
+use Rattle.rules.specs.SuperBlock.{Geometry, withStamp, putSizes}
 use Rattle.rules.specs.SuperBlock.Laws.{SameSealed, asStored}
 use Rattle.rules.specs.Index.{Entry}
 use Rattle.rules.specs.Refusals.{accepted, Volume, entries, judge}
-use Rattle.rules.specs.Refusals.Laws.{Opens, judge-opens, opens-judge}
-use Rattle.rules.specs.Paths.{isDeleted, pathsSound}
+use Rattle.rules.specs.Refusals.Laws.{judge-opens, opens-judge}
+use Rattle.rules.specs.Paths.{isDeleted}
 use Rattle.rules.specs.Writing.{trimmedTo, undeleted, cleared, reclaimOf}
 use Rattle.rules.specs.Writing.Laws.{tidyImage}
-use Rattle.after.specs.After.{isNamed, seen, Left, AfterReclaim}
+use Rattle.after.specs.After.{AfterReclaim}
 use Rattle.laws.proofs.Entries.Paths.{paths-reclaim}
 use Rattle.laws.proofs.Images.Accepted.{passed-writable, passed-done}
 use Rattle.laws.proofs.Images.Tidying.{settledVolume, settled-entries, opens-settled, tidied-opens}

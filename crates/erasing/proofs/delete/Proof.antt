@@ -4,7 +4,7 @@ use Rattle.rules.specs.Outcome.{done}
 use Rattle.rules.specs.Writing.{wiped, deleteOf}
 use Rattle.contracts.specs.Contracts.{writtenAs}
 use denote.Ref.{now}
-use Rattle.erasing.specs.Delete.{Going, plan-refused, plan-going}
+use Rattle.erasing.specs.Delete.{DeleteFound, plan-refused, plan-entry}
 use borrow.Author.Needs.{needs}
 use Rattle.erasing.proofs.delete.Statement.{statement}
 use Rattle.erasing.proofs.delete.Tie as tie
@@ -15,8 +15,8 @@ planned c = c .before .before
 abbrev begun : tie.After-plan-delete → tie.Start
 begun c = c .before .before .before .before
 
-going : (c : tie.After-g) → let a = begun (planned c) .args in Going (now (a .img)) (now (a .path)) (c .g .given .0 .0) (c .g .given .0 .1 .0)
-going c = plan-going _ _ _ (planned c .plan-delete .ensures) _ _ (c .g .given .1)
+going : (c : tie.After-g) → let a = begun (planned c) .args in DeleteFound (now (a .img)) (now (a .path)) (c .g .given .0 .0) (c .g .given .0 .1 .0)
+going c = plan-entry _ _ _ (planned c .plan-delete .ensures) _ _ (c .g .given .1)
 
 write-wiped-requires : tie.Need-write-wiped-requires
 write-wiped-requires c κs = let p = going (c .before .before) in (p .opened, p .room, p .region)

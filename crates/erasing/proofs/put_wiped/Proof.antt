@@ -1,10 +1,5 @@
-use mathlib.Core.Path.{ap, _∙_}
-use mathlib.Core.List.{List}
-use Rattle.rules.specs.Fields.{splice}
-use Rattle.rules.specs.SuperBlock.{putSizes}
-use Rattle.rules.specs.Index.{unusedBytes}
+use mathlib.Core.Path.{_∙_}
 use Rattle.slots.specs.View.{headView}
-use Rattle.geometry.specs.View.{geometryView}
 use borrow.Author.Needs.{needs}
 use Rattle.erasing.proofs.put_wiped.Statement.{statement}
 use Rattle.erasing.proofs.put_wiped.Tie as tie

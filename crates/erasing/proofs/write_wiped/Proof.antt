@@ -1,8 +1,5 @@
-use Prim.Native.Nat.{_≤_}
-use mathlib.Core.Path.{_≡_}
 use native.Mathlib.Omega.{arith}
 use denote.Ref.{now}
-use lib.ListN.{length}
 use Rattle.judging.specs.View.{opened-super, opened-sound, opened-long}
 use Rattle.erasing.specs.Delete.{tidied-held, wiped-written}
 use borrow.Author.Needs.{needs}

@@ -1,18 +1,14 @@
 -- What list finds one after the other are the live entries from a slot on, since entries stand in slot order.
-use Prim.Native.Nat.{ℕ, zero, suc, _+_, _-_, _*_, _≤_, _<_}
+use Prim.Native.Nat.{ℕ, _+_, _-_, _≤_, _<_}
 use mathlib.Core.Path.{_≡_, refl, subst, _∙_}
 use mathlib.Core.Bool.{Bool, true, false}
 use mathlib.Core.List.{List, [], _∷_}
 use native.Mathlib.Omega.{arith}
-use lib.ListN.{drop}
 use lib.Dec.{leb}
 use borrow.Author.Tests.{le-leb, lt-leb, leb-true}
 use Rattle.rules.specs.Lists.{only, keepIf}
 use Rattle.rules.specs.Lists.Laws.{and-true, and-right, only-no}
-use Rattle.rules.specs.Editions.{Edition}
-use Rattle.rules.specs.SuperBlock.{Geometry}
-use Rattle.rules.specs.Index.{Item, Entry, unused, stale, entry, fault, entryAt, unusableAt, itemAt, followed, walk, itemsOf, entriesOf, slotBytes}
-use Rattle.rules.specs.Index.Walk.{walkAll, slotsOf, slots-pos}
+use Rattle.rules.specs.Index.{Entry}
 use Rattle.rules.specs.Paths.{isLive, liveFrom}
 use Rattle.laws.proofs.Lists.Parts.{cons-head, cons-tail, nil-cons}
 use Rattle.laws.proofs.Index.Rising.{Rising, rising-from}
