@@ -8,6 +8,7 @@ pub mod Strike
 pub mod Deletable
 pub mod Delete
 pub mod DeleteKeep
+pub mod Unfound
 pub mod Restore
 pub mod Reclaim
 pub mod Back

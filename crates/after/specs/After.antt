@@ -15,7 +15,7 @@ use Rattle.rules.specs.Regions.{Extent, extentOf, blocksOf}
 use Rattle.rules.specs.Names.{pathGood}
 use Rattle.rules.specs.Paths.{isLive, deletedAt, lookup}
 use Rattle.rules.specs.Refusals.{accepted, Volume, entries, judge}
-use Rattle.rules.specs.Reading.{fileBytes}
+use Rattle.rules.specs.Reading.{fileBytes, findOf}
 use Rattle.rules.specs.Writing.{New, formatOf, createOf, liveKind, deleteOf, deleteKeepOf, restoreOf, reclaimOf}
 use Rattle.rules.specs.Writing.Laws.{refusedWrite, wrote}
 use Rattle.rules.specs.History.{Kept, keptOf, keptAt, marked, revived}
@@ -98,6 +98,14 @@ AfterReclaim =
     → Left (reclaimOf s stamp .image) (v .geometry .edition) (blockLength (v .geometry)) (only (λ k. k .live) (sight s v)) (unusables v)
 
 -- ---- two calls, one after the other
+-- a delete of either kind, then a find of the path: 11
+abbrev pub DeletedUnfound : Type 0
+DeletedUnfound =
+    (s : List ℕ) (v : Volume) (path : List ℕ) (stamp : ℤ)
+    → judge s ≡ accepted v
+    → (deleteOf s path stamp .refusal ≡ 0 → findOf (deleteOf s path stamp .image) path .refusal ≡ 11)
+    × (deleteKeepOf s path stamp .refusal ≡ 0 → findOf (deleteKeepOf s path stamp .image) path .refusal ≡ 11)
+
 -- a delete that keeps, then a restore with the stamp that the entry had: the image is what it was, byte for byte; or, where another entry of the path
 -- had been deleted before, 19. Where deleted entries are not kept, 11
 abbrev pub DeletedRestored : Type 0

@@ -13,6 +13,7 @@ use Rattle.rules.specs.Names.{pathGood}
 use Rattle.rules.specs.Paths.{deletedAt}
 use Rattle.rules.specs.Refusals.{accepted, Volume, entries, judge}
 use Rattle.rules.specs.Outcome.{done, numbersOf}
+use Rattle.rules.specs.Reading.{findOf}
 use Rattle.rules.specs.Reading.Laws.{find-done}
 use Rattle.rules.specs.Writing.{Written, onDeletable, wiped, Wiped, deleteOf, deleted, deleteKeepOf, restoreOf, reclaimOf}
 use Rattle.rules.specs.Writing.Laws.{refusedWrite, wrote, restore-name}
@@ -21,6 +22,7 @@ use Rattle.contracts.specs.declared.Entry.{Entry}
 use Rattle.laws.proofs.Images.Accepted.{passed-opens}
 use Rattle.after.proofs.Deletable.{delete-passed}
 use Rattle.after.proofs.Delete.{delete-wipes}
+use Rattle.after.proofs.Unfound.{deleted-unfound}
 use Rattle.after.proofs.Reclaim.Left.{Reopens, reclaim-reopens}
 use Rattle.after.proofs.Back.{deleted-restored, reclaimed-restored, still-may}
 use Rattle.undoing.specs.Undone.{LeavesNothing, UndoneBy, Undone, TooLate}
@@ -47,7 +49,16 @@ leaves-nothing s t path stamp r deletes served =
     let z : w .refusal ≡ 0 = sym (same-refusal r t w deletes) ∙ served in
     let o = passed-opens s _ z in
     let d = delete-passed s (o .0) path (wiped path stamp) (o .1) z in
-    (o .0, d .it, o .1, d .found, subst (λ (u : List ℕ). Wiped u (o .0 .geometry) (d .it)) (same-image r t w deletes) (delete-wipes s (o .0) path (d .it) stamp (o .1) (d .found) z))
+    let i = same-image r t w deletes in (
+      o .0,
+      d .it,
+      o .1,
+      d .found,
+      subst (λ (u : List ℕ). Wiped u (o .0 .geometry) (d .it)) i (delete-wipes s (o .0) path (d .it) stamp (o .1) (d .found) z),
+      λ found finds.
+          ap (λ x. x .refusal) finds
+          ∙ subst (λ (u : List ℕ). findOf u path .refusal ≡ 11) i (deleted-unfound s (o .0) path stamp (o .1) .0 z),
+    )
 
 -- ---- a delete undone
 restored-as : (keeps b : Bool) (s t u : List ℕ) (q : ℕ) → writtenAs q u ≡ pick keeps (pick b (refusedWrite t 19) (wrote s)) (refusedWrite t 11)

@@ -13,11 +13,17 @@ use Rattle.rules.specs.Index.{Entry}
 use Rattle.rules.specs.Paths.{lookup}
 use Rattle.rules.specs.Refusals.{accepted, Volume, entries, judge}
 use Rattle.rules.specs.Writing.{Wiped, deleteKeepOf, reclaimOf}
+use Rattle.contracts.specs.Contracts.{Finds}
+use Rattle.contracts.specs.declared.Entry.{Entry as Found}
 
 -- THE PROMISE OF sfs_delete. Where it answers 0 the path had a live entry; where the bytes of that entry's region were the image holds zeros, and where its
--- name was, unused slots
+-- name was, unused slots; and sfs_find of the path then answers 11
 abbrev pub LeavesNothing : List ℕ → List ℕ → ℕ → List ℕ → Type 0
-LeavesNothing s path r u = r ≡ 0 → (v : Volume) × (e : Entry) × (judge s ≡ accepted v) × (lookup path (entries v) ≡ some e) × Wiped u (v .geometry) e
+LeavesNothing s path r u =
+    r ≡ 0
+    → (v : Volume) × (e : Entry) × (judge s ≡ accepted v) × (lookup path (entries v) ≡ some e)
+    × Wiped u (v .geometry) e
+    × ((found : Found) → Finds u path found → found .refusal ≡ 11)
 
 -- a restore with the old stamp, behind a delete that keeps and left t. Where deleted entries are kept: the image from before, byte for byte; or 19, where another
 -- entry of the path had been deleted before. Where not: 11
