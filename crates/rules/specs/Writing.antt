@@ -268,6 +268,10 @@ deleted stamp s v e =
 unfoldable pub deleteKeepOf : List ℕ → List ℕ → ℤ → Written
 deleteKeepOf s path stamp = onDeletable s path (deleted stamp)
 
+-- so that both give one number on every image and path (`deletes-alike`)
+abbrev pub DeletesAlike : Type 0
+DeletesAlike = (s path : List ℕ) (stamp other : ℤ) → deleteOf s path stamp .refusal ≡ deleteKeepOf s path other .refusal
+
 -- ---- restore, request K2: the type and the stamp of the path's one deleted entry
 -- a deleted file is a file again, a deleted directory a directory
 unfoldable pub liveKind : ℕ → ℕ
@@ -304,7 +308,8 @@ reclaimOf s stamp =
     let g : Geometry = trimmedTo (undeleted (entries v)) (v .geometry) stamp in
     accepted (done tt (cleared isDeleted (putSizes t g) g (entries v)) []))
 
--- ---- THE PROMISE OF A PLAIN DELETE: where the file's bytes were are zeros, and where its name was are unused slots
+-- ---- THE PROMISE OF A PLAIN DELETE: where the file's bytes were are zeros, and where its name was are unused slots, of which all is zero but the type and
+-- the sum
 pub record Wiped (t : List ℕ) (g : Geometry) (e : Entry) : Type 0 where
   pub region : part t (e .start * blockLength g) (blocksOf e * blockLength g) ≡ replicate (blocksOf e * blockLength g) 0
   pub run : part t (slotAt t g (e .slot)) (slotBytes * e .slots) ≡ unusedBytes (g .edition) (e .slots)

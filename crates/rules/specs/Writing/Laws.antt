@@ -1,9 +1,9 @@
 -- Laws of the writing calls: one for each way that a call can end.
 use Prim.Native.Nat.{ℕ}
-use mathlib.Core.Path.{_≡_, _∙_}
-use mathlib.Core.Bool.{true, false, not}
+use mathlib.Core.Path.{_≡_, refl, sym, _∙_}
+use mathlib.Core.Bool.{Bool, true, false, not}
 use mathlib.Core.List.{List, []}
-use mathlib.Core.Option.{none, some}
+use mathlib.Core.Option.{Option, none, some}
 use lib.ListN.{length}
 use lib.Dec.{leb}
 use lib.IntN.{ℤ}
@@ -13,11 +13,11 @@ use Rattle.rules.specs.SuperBlock.{Geometry, lengthGood, fieldOf, geomet
 use Rattle.rules.specs.Names.{pathGood, newPathGood, volumeNameGood, leading}
 use Rattle.rules.specs.Index.{Entry, slotAt}
 use Rattle.rules.specs.Paths.{isDeleted, deletedAt, lookup, anyBelow}
-use Rattle.rules.specs.Refusals.{refused, accepted, Volume, entries, judge}
+use Rattle.rules.specs.Refusals.{Verdict, refused, accepted, need, needFound, andThen, Volume, entries, judge}
 use Rattle.rules.specs.Refusals.Laws.{need-true, need-false, found-none, found-some}
-use Rattle.rules.specs.Outcome.{done}
+use Rattle.rules.specs.Outcome.{done, conclude, onVolume}
 use Rattle.rules.specs.Outcome.Laws.{denied, conclude-refused, conclude-accepted, volume-refused, volume-denied, volume-done}
-use Rattle.rules.specs.Writing.{Written, New, tidied, formatOf, freshGeometry, formatted, createOf, nearestLive, newSlots, newBlocks, Place, placeRun, placeFile, siteOf, created, trimmedTo, onDeletable, restoreOf, restored, reclaimOf, undeleted, cleared}
+use Rattle.rules.specs.Writing.{Written, New, tidied, formatOf, freshGeometry, formatted, createOf, nearestLive, newSlots, newBlocks, Place, placeRun, placeFile, siteOf, created, trimmedTo, onDeletable, wiped, deleteOf, deleted, deleteKeepOf, DeletesAlike, restoreOf, restored, reclaimOf, undeleted, cleared}
 
 abbrev pub refusedWrite : List ℕ → ℕ → Written
 refusedWrite s n = denied tt s [] n
@@ -204,3 +204,42 @@ module _ (s : List ℕ) (v : Volume) (opens : judge s ≡ accepted v) where
         reclaimOf s stamp ≡ wrote (cleared isDeleted (putSizes (tidyImage s v) g) g (entries v))
     unfolding reclaimOf
     reclaim-done stamp = volume-done tt s [] _ v _ opens (need-true 9 _ may)
+
+-- ---- both deletes refuse alike: what a call writes is no part of its number
+numberOf : Verdict Written → ℕ
+numberOf (refused n) = n
+numberOf (accepted o) = o .refusal
+
+number-is : (s : List ℕ) (d : Verdict Written) → conclude tt s [] d .refusal ≡ numberOf d
+unfolding conclude numberOf
+number-is s (refused n) = refl
+number-is s (accepted o) = refl
+
+need-alike : (b : Bool) (n : ℕ) (d e : Verdict Written) → numberOf d ≡ numberOf e → numberOf (need b n d) ≡ numberOf (need b n e)
+unfolding need numberOf
+need-alike true n d e h = h
+need-alike false n d e h = refl
+
+found-alike : (o : Option Entry) (n : ℕ) (f g : Entry → Verdict Written) → ((x : Entry) → numberOf (f x) ≡ numberOf (g x)) → numberOf (needFound o n f) ≡ numberOf (needFound o n g)
+unfolding needFound numberOf
+found-alike none n f g h = refl
+found-alike (some x) n f g h = h x
+
+then-alike : (d : Verdict Volume) (f g : Volume → Verdict Written) → ((v : Volume) → numberOf (f v) ≡ numberOf (g v)) → numberOf (andThen d f) ≡ numberOf (andThen d g)
+unfolding andThen numberOf
+then-alike (refused n) f g h = refl
+then-alike (accepted v) f g h = h v
+
+number-alike : (s path : List ℕ) (write other : List ℕ → Volume → Entry → List ℕ) → onDeletable s path write .refusal ≡ onDeletable s path other .refusal
+unfolding onDeletable onVolume done numberOf
+number-alike s path write other =
+    number-is s _
+    ∙ then-alike (judge s) _ _ (λ v.
+    need-alike (writable (v .geometry)) 9 _ _
+    (need-alike (pathGood path) 10 _ _
+    (found-alike (lookup path (entries v)) 11 _ _ (λ e. need-alike (not (anyBelow path (entries v))) 14 _ _ refl))))
+    ∙ sym (number-is s _)
+
+pub deletes-alike : DeletesAlike
+unfolding deleteOf deleteKeepOf
+deletes-alike s path stamp other = number-alike s path (wiped path stamp) (deleted other)
