@@ -40,7 +40,7 @@ static const struct command {
     {"put", "IMAGE FILE... PATH", "put files into a directory, or one under a path of its own", 3, INT_MAX, true, STAMP, run_put, ""},
     {"mkdir", "IMAGE PATH...", "make directories", 2, INT_MAX, true, STAMP, run_mkdir, ""},
     {"rm", "IMAGE PATH...", "delete files and empty directories, and wipe them", 2, INT_MAX, true, RM_OPTIONS, run_rm, ""},
-    {"restore", "IMAGE PATH...", "bring back what 'rm --keep' deleted (edition 1.0)", 2, INT_MAX, true, STAMP, run_restore, ""},
+    {"restore", "IMAGE PATH...", "bring back what was deleted and kept (edition 1.0)", 2, INT_MAX, true, STAMP, run_restore, ""},
     {"reclaim", "IMAGE", "free what deleted entries hold", 1, 1, true, STAMP, run_reclaim, ""},
     {"check", "IMAGE...", "say whether volumes are good, or which rule they break", 1, INT_MAX, false, 0, run_check, ""},
     {"report", "FILE...", "add up how the images of files are filled", 1, INT_MAX, false, 0, run_report, REPORT_LIMITS},

@@ -211,20 +211,22 @@ uint32_t sfs_create_directory(uint8_t *image, size_t image_len, const uint8_t *p
  * Deletes a file or an empty directory and wipes it, in both editions. Every byte of a file's region, also behind the file's
  * length, becomes zero, and the entry's slots become unused ones: no byte of the content is left in the region, and the name
  * is not in the slots. The data area is trimmed to the regions that are left, those of kept deleted files among them, and only
- * if its size changes the volume gets the stamp. What was deleted cannot be restored. Refusals: 1 to 11, 14.
+ * if its size changes the volume gets the stamp. What was deleted cannot be restored. An older entry of the path that was
+ * deleted and kept stays: to wipe it too, restore it and delete it again. Refusals: 1 to 11, 14.
  */
 uint32_t sfs_delete(uint8_t *image, size_t image_len, const uint8_t *path, size_t path_len, int64_t stamp);
 
 /*
- * Deletes a file or an empty directory, and wipes and trims nothing. In edition 1.0 its slots and blocks stay held until a
- * reclaim; before that, sfs_restore can bring it back. In 1.10 its slots become unused ones and its blocks are free at once:
- * it cannot be restored, and the stamp appears nowhere. Refusals: 1 to 11, 14, each where sfs_delete gives it.
+ * Deletes a file or an empty directory, and wipes and trims nothing: what sfs_delete did in interface 1. In edition 1.0 its
+ * slots and blocks stay held until a reclaim; before that, sfs_restore can bring it back. In 1.10 its slots become unused ones
+ * and its blocks are free at once: it cannot be restored, and the stamp appears nowhere. Refusals: 1 to 11, 14, each where
+ * sfs_delete gives it.
  */
 uint32_t sfs_delete_keep(uint8_t *image, size_t image_len, const uint8_t *path, size_t path_len, int64_t stamp);
 
 /*
- * Brings the file or directory of a path back that was deleted by sfs_delete_keep, with its bytes and with this stamp; a
- * directory comes back without what was below it. 11: no deleted entry has the path, live or not. 12: one has, and the path
+ * Brings the file or directory of a path back that was deleted and kept, with its bytes and with this stamp; a directory
+ * comes back without what was below it. 11: no deleted entry has the path, live or not. 12: one has, and the path
  * is live again. 13: its directory is not live. 19: two or more deleted entries have the path, and none is chosen. In edition
  * 1.10 no deleted entry is kept, so that a volume that opens gets 10 or 11. Refusals: 1 to 13, 19.
  */
@@ -232,7 +234,7 @@ uint32_t sfs_restore(uint8_t *image, size_t image_len, const uint8_t *path, size
 
 /*
  * Frees what deleted entries hold, which cannot be restored any more, and trims the data area to the regions that are left;
- * in edition 1.10 it only trims. It wipes no block. Refusals: 1 to 9.
+ * in edition 1.10 it only trims. It wipes no block: what is to be wiped is restored and deleted. Refusals: 1 to 9.
  */
 uint32_t sfs_reclaim(uint8_t *image, size_t image_len, int64_t stamp);
 

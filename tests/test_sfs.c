@@ -1440,6 +1440,22 @@ static void reports(void) {
     report_worked(SFS_VERSION_1_10);
 }
 
+static void newer(void) {
+    newer_formats();
+    both_magics();
+    later_version();
+    newer_deletes();
+    newer_reclaims();
+    newer_full_volume_kept();
+    newer_listing();
+    stray_slots();
+    deleted_runs();
+    wrong_sums();
+    unusable_blocks();
+    before_directories();
+    newer_name_lengths();
+}
+
 int main(void) {
     empty_slices();
     formats_refused();
@@ -1465,19 +1481,7 @@ int main(void) {
     names_refused();
     names_in_utf8();
     names_over_slots();
-    newer_formats();
-    both_magics();
-    later_version();
-    newer_deletes();
-    newer_reclaims();
-    newer_full_volume_kept();
-    newer_listing();
-    stray_slots();
-    deleted_runs();
-    wrong_sums();
-    unusable_blocks();
-    before_directories();
-    newer_name_lengths();
+    newer();
     wipes(SFS_VERSION_1_0);
     wipes(SFS_VERSION_1_10);
     deletes_refused_by_index();

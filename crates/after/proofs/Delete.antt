@@ -20,7 +20,7 @@ use Rattle.rules.specs.Paths.{liveAt, lookup, anyBelow}
 use Rattle.rules.specs.Refusals.{accepted, Volume, entries}
 use Rattle.rules.specs.Refusals.Laws.{Opens, judge-opens, opens-judge}
 use Rattle.rules.specs.Writing.{runCleared, regionCleared, trimmedTo, without, wiped, deleteOf, Wiped, DeleteWipes}
-use Rattle.rules.specs.Writing.Laws.{tidyImage}
+use Rattle.rules.specs.Writing.Laws.{tidyImage, region-zeros}
 use Rattle.rules.specs.History.{keptAt}
 use Rattle.after.specs.After.{isNamed, seen, Left, sight, unusables, AfterDelete}
 use Rattle.laws.proofs.Lists.Parts.{some-same}
@@ -134,18 +134,16 @@ module _ (s : List ℕ) (v : Volume) (path : List ℕ) (stamp : ℤ) (o : Opens 
 
   -- ---- what is left of it
   region : part (deleteOf s path stamp .image) (e .start * blockLength g) bytes ≡ replicate bytes 0
-  unfolding blocksOf regionCleared
+  unfolding blocksOf
   region = by placed
     where
       by : Regionless e ⊎ Within g e → part (deleteOf s path stamp .image) (e .start * blockLength g) bytes ≡ replicate bytes 0
       by (inl r) = none-zeros _ _ bytes (ap (λ (n : ℕ). n * blockLength g) (omega (arith, r .end)) ∙ zero-mul (blockLength g))
       by (inr i) =
           let inside = within-in (length t) g e (o₂ .geometry-good) i in
-          let full : length (replicate {A = ℕ} bytes 0) ≡ bytes = length-replicate bytes 0 in
           ap (λ (u : List ℕ). part u (e .start * blockLength g) bytes) image-is
           ∙ between z w stamp o₃ neat (liveAt path) (e .start * blockLength g) bytes (inside .low) (omega (arith, inside .order, inside .high, kept .long))
-          ∙ subst (λ (n : ℕ). part z (e .start * blockLength g) n ≡ replicate bytes 0) full
-          (part-splice-in t (e .start * blockLength g) (replicate bytes 0) (omega (arith, full, inside .order, inside .high)))
+          ∙ region-zeros t g e (omega (arith, inside .order, inside .high))
 
   run : part (deleteOf s path stamp .image) (slotAt (deleteOf s path stamp .image) g (e .slot)) (slotBytes * e .slots) ≡ unusedBytes (g .edition) (e .slots)
   run =

@@ -1,3 +1,3 @@
--- What a change of one entry's type and stamp leaves; a delete and a restore are its two cases.
+-- What a change of one entry's type and stamp leaves; a delete that keeps and a restore are its two cases.
 pub mod Seeing
 pub mod Left

@@ -1,4 +1,4 @@
-// Free runs, blocks held, and the blocks that a file needs.
+// Free runs, blocks held, the blocks that a file needs, and the least end of the data area.
 
 use index::Cursor;
 use index::Next;

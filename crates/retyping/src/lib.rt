@@ -1,4 +1,4 @@
-// An entry of another type, or of none any more: what a delete and a restore plan, and the one place that writes it.
+// An entry of another type, or of none any more: what a delete that keeps and a restore plan, and the one place that writes it.
 
 use geometry::Geometry;
 use units::Offset;

@@ -1,4 +1,4 @@
--- A delete as a change of type: the live entry of the path has a deleted kind, and all stays sound. Assumes nothing.
+-- A delete that keeps, as a change of type: the live entry of the path has a deleted kind, and all stays sound. Assumes nothing.
 use mathlib.Core.Path.{_≡_, ap, _∙_}
 use mathlib.Core.Bool.{true, false}
 use mathlib.Core.List.{List, map}

@@ -1,4 +1,4 @@
--- Entries under a change of type and stamp, as a delete and a restore make it: where those that pass a test are runs' and a file stays one, the
+-- Entries under a change of type and stamp, as a delete that keeps and a restore make it: where those that pass a test are runs' and a file stays one, the
 -- regions stay as they were. Assumes nothing.
 use mathlib.Core.Path.{_≡_, refl, sym, ap, ap₂, _∙_}
 use mathlib.Core.Bool.{Bool, true, false}

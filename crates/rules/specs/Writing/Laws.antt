@@ -1,23 +1,27 @@
 -- Laws of the writing calls: one for each way that a call can end.
-use Prim.Native.Nat.{ℕ}
-use mathlib.Core.Path.{_≡_, refl, sym, _∙_}
+use Prim.Native.Nat.{ℕ, _+_, _*_, _≤_}
+use mathlib.Core.Path.{_≡_, refl, sym, subst, _∙_}
 use mathlib.Core.Bool.{Bool, true, false, not}
 use mathlib.Core.List.{List, []}
 use mathlib.Core.Option.{Option, none, some}
-use lib.ListN.{length}
+use native.Mathlib.Omega.{arith}
+use lib.ListN.{length, replicate, length-replicate}
 use lib.Dec.{leb}
 use lib.IntN.{ℤ}
-use Rattle.rules.specs.Lists.{only, first, isSome}
+use Rattle.rules.specs.Lists.{only, first, isSome, part}
+use Rattle.rules.specs.Fields.{splice}
+use Rattle.rules.specs.Fields.Laws.{part-splice-in}
 use Rattle.rules.specs.Editions.{versionNamed, editionNamed}
-use Rattle.rules.specs.SuperBlock.{Geometry, lengthGood, fieldOf, geometryGood, putSizes, writable}
+use Rattle.rules.specs.SuperBlock.{Geometry, blockLength, lengthGood, fieldOf, geometryGood, putSizes, writable}
 use Rattle.rules.specs.Names.{pathGood, newPathGood, volumeNameGood, leading}
 use Rattle.rules.specs.Index.{Entry, slotAt}
+use Rattle.rules.specs.Regions.{blocksOf}
 use Rattle.rules.specs.Paths.{isDeleted, deletedAt, lookup, anyBelow}
 use Rattle.rules.specs.Refusals.{Verdict, refused, accepted, need, needFound, andThen, Volume, entries, judge}
 use Rattle.rules.specs.Refusals.Laws.{need-true, need-false, found-none, found-some}
 use Rattle.rules.specs.Outcome.{done, conclude, onVolume}
 use Rattle.rules.specs.Outcome.Laws.{denied, conclude-refused, conclude-accepted, volume-refused, volume-denied, volume-done}
-use Rattle.rules.specs.Writing.{Written, New, tidied, formatOf, freshGeometry, formatted, createOf, nearestLive, newSlots, newBlocks, Place, placeRun, placeFile, siteOf, created, trimmedTo, onDeletable, wiped, deleteOf, deleted, deleteKeepOf, DeletesAlike, restoreOf, restored, reclaimOf, undeleted, cleared}
+use Rattle.rules.specs.Writing.{Written, New, tidied, formatOf, freshGeometry, formatted, createOf, nearestLive, newSlots, newBlocks, Place, placeRun, placeFile, siteOf, created, regionCleared, trimmedTo, onDeletable, wiped, deleteOf, deleted, deleteKeepOf, DeletesAlike, restoreOf, restored, reclaimOf, undeleted, cleared}
 
 abbrev pub refusedWrite : List ℕ → ℕ → Written
 refusedWrite s n = denied tt s [] n
@@ -204,6 +208,16 @@ module _ (s : List ℕ) (v : Volume) (opens : judge s ≡ accepted v) where
         reclaimOf s stamp ≡ wrote (cleared isDeleted (putSizes (tidyImage s v) g) g (entries v))
     unfolding reclaimOf
     reclaim-done stamp = volume-done tt s [] _ v _ opens (need-true 9 _ may)
+
+-- ---- a region that was cleared is zeros
+pub region-zeros : (s : List ℕ) (g : Geometry) (e : Entry) → e .start * blockLength g + blocksOf e * blockLength g ≤ length s
+    → part (regionCleared s g e) (e .start * blockLength g) (blocksOf e * blockLength g) ≡ replicate (blocksOf e * blockLength g) 0
+unfolding regionCleared
+region-zeros s g e room =
+    let bytes : ℕ = blocksOf e * blockLength g in
+    let full : length (replicate {A = ℕ} bytes 0) ≡ bytes = length-replicate bytes 0 in
+    subst (λ (n : ℕ). part (splice s (e .start * blockLength g) (replicate bytes 0)) (e .start * blockLength g) n ≡ replicate bytes 0) full
+    (part-splice-in s (e .start * blockLength g) (replicate bytes 0) (omega (arith, full, room)))
 
 -- ---- both deletes refuse alike: what a call writes is no part of its number
 numberOf : Verdict Written → ℕ
