@@ -24,7 +24,6 @@ static const struct form {
     [OPTION_LONG] = {'l', "long", NULL, "kind, length, date and path of each entry"},
     [OPTION_ONE] = {'1', NULL, NULL, "bare paths, for scripts"},
     [OPTION_KEEP] = {0, "keep", NULL, "wipe nothing; in edition 1.0 'sfs restore' can bring it back until a reclaim"},
-    [OPTION_STEPS] = {0, "steps", NULL, "print how many slots of the index the search stepped on, too"},
     [OPTION_STAMP] = {0, "stamp", "S", "the time to store: 2026-11-17T12:00:00Z, or 1/65536 seconds from 1970; else now"},
     [OPTION_HELP] = {0, "help", NULL, "print this help"},
 };

@@ -15,7 +15,6 @@ enum option {
     OPTION_LONG,
     OPTION_ONE,
     OPTION_KEEP,
-    OPTION_STEPS,
     OPTION_STAMP,
     OPTION_HELP,
     OPTIONS

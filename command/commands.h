@@ -13,7 +13,6 @@ int run_format(const struct arguments *arguments);
 int run_info(const struct arguments *arguments);
 int run_check(const struct arguments *arguments);
 int run_ls(const struct arguments *arguments);
-int run_find(const struct arguments *arguments);
 int run_cat(const struct arguments *arguments);
 int run_put(const struct arguments *arguments);
 int run_mkdir(const struct arguments *arguments);

@@ -1,9 +1,10 @@
 /* info and check: a volume's numbers, and whether it is one. */
+#include <inttypes.h>
 #include <stdio.h>
 
 #include "commands.h"
+#include "dates.h"
 #include "entries.h"
-#include "fields.h"
 #include "words.h"
 
 /* A volume's numbers with its name, the number of its live entries, and the image's name. */
@@ -40,6 +41,16 @@ static int look_at(const char *command, const char *name, struct outline *outlin
     return refusal == SFS_OK ? 0 : refused(command, image.name, NULL, refusal);
 }
 
+static void print_number(const char *field, uint64_t number) {
+    printf("%-14s%" PRIu64 "\n", field, number);
+}
+
+static void print_date(const char *field, int64_t stamp) {
+    char date[DATE_ROOM];
+    date_of_stamp(stamp, date);
+    printf("%-14s%s\n", field, date);
+}
+
 int run_info(const struct arguments *arguments) {
     struct outline outline;
     int status = look_at(arguments->command, arguments->operands[0], &outline);
@@ -47,7 +58,7 @@ int run_info(const struct arguments *arguments) {
         return status;
     const struct sfs_volume *volume = &outline.volume;
     printf("%-14s%.*s\n", "name", (int)volume->name_length, (const char *)outline.name);
-    print_word("edition", edition_text(volume->edition));
+    printf("%-14s%s\n", "edition", edition_text(volume->edition));
     printf("%-14s0x%02X\n", "version", volume->version);
     print_number("total", volume->total);
     print_number("reserved", volume->reserved);

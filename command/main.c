@@ -36,7 +36,6 @@ static const struct command {
     {"format", "IMAGE", "make an empty volume", 1, 1, true, FORMAT_OPTIONS, run_format, ""},
     {"info", "IMAGE", "print a volume's numbers", 1, 1, false, 0, run_info, ""},
     {"ls", "IMAGE [PATH]", "list a volume, or what is at a path and below it", 1, 2, false, LS_OPTIONS, run_ls, ""},
-    {"find", "IMAGE PATH", "print an entry's numbers", 2, 2, false, OPTION(OPTION_STEPS), run_find, ""},
     {"cat", "IMAGE PATH...", "print the bytes of files", 2, INT_MAX, false, 0, run_cat, ""},
     {"put", "IMAGE FILE... PATH", "put files into a directory, or one under a path of its own", 3, INT_MAX, true, STAMP, run_put, ""},
     {"mkdir", "IMAGE PATH...", "make directories", 2, INT_MAX, true, STAMP, run_mkdir, ""},

@@ -5,9 +5,8 @@
  * calls on different images may run at the same time; calls on one image may not, if one of them writes.
  *
  * Every call on an image takes any image and any arguments and, format, listing and report apart, judges the image before
- * anything else. Its refusal number is 0 on success. After a refusal every other number of the answer is 0, but for the steps of
- * a find that finds nothing, and no byte of the image or of a lent output has changed; only sfs_report_add counts the refusal of
- * an image in the report.
+ * anything else. Its refusal number is 0 on success. After a refusal every other number of the answer is 0, and no byte of the
+ * image or of a lent output has changed; only sfs_report_add counts the refusal of an image in the report.
  *
  * The magic decides a volume's edition, and all calls serve both. In 1.10 no delete leaves anything that could be restored;
  * and every accepted call that writes, format apart, first rewrites deleted runs and stray slots, which other programs leave,
@@ -33,7 +32,7 @@ extern "C" {
 #endif
 
 /* The number of this interface, raised whenever a struct, an argument or what a call does changes; sfs_api() is the library's. */
-#define SFS_API 3u
+#define SFS_API 2u
 
 /* Sizes. */
 #define SFS_IMAGE_MIN 512u
@@ -110,10 +109,9 @@ struct sfs_entry {
     uint64_t end;     /* the block past it in edition 1.0, its last block in 1.10 */
     uint64_t length;  /* bytes */
     int64_t stamp;
-    uint64_t steps;   /* slots that the search stepped on, also where it found nothing (11) */
 };
 
-/* The numbers of an entry and its path's byte count; kind 0, if refusal is 0: no entry is left. */
+/* The same with the path's byte count; kind 0, if refusal is 0: no entry is left. */
 struct sfs_listed {
     uint32_t refusal;
     uint32_t kind;
@@ -180,13 +178,7 @@ uint32_t sfs_format(uint8_t *image, size_t image_len, uint64_t version, uint64_t
 /* Gives the volume's numbers and puts its name at the start of out. Refusals: 1 to 8, 18. */
 struct sfs_volume sfs_open(const uint8_t *image, size_t image_len, uint8_t *out, size_t out_len);
 
-/*
- * Gives the numbers of the live entry of a path, and how far the search for it went: steps counts the slots from slot 1 on, up
- * to and with the entry that is found, or, with 11, up to the last before the volume identifier. An entry counts one, a deleted
- * or unusable one too, whatever slots continue its name; an unused slot counts one, and in edition 1.10 so does each slot of a
- * deleted run or stray slot that other programs left. It is at most index_bytes / SFS_SLOT_BYTES of the volume. With any other
- * refusal it is 0, and no search was made. Refusals: 1 to 8, 10, 11.
- */
+/* Gives the numbers of the live entry of a path. Refusals: 1 to 8, 10, 11. */
 struct sfs_entry sfs_find(const uint8_t *image, size_t image_len, const uint8_t *path, size_t path_len);
 
 /*

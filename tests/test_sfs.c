@@ -33,8 +33,7 @@ FIELD(sfs_entry, start, 16, uint64_t);
 FIELD(sfs_entry, end, 24, uint64_t);
 FIELD(sfs_entry, length, 32, uint64_t);
 FIELD(sfs_entry, stamp, 40, int64_t);
-FIELD(sfs_entry, steps, 48, uint64_t);
-SIZE(sfs_entry, 56);
+SIZE(sfs_entry, 48);
 
 FIELD(sfs_listed, refusal, 0, uint32_t);
 FIELD(sfs_listed, kind, 4, uint32_t);
@@ -65,7 +64,7 @@ NUMBER(SFS_RECORD_STAMP, 40);
 NUMBER(SFS_RECORD_PATH_LENGTH, 48);
 NUMBER(SFS_RECORD_PATH, 56);
 NUMBER(SFS_RECORDS_ROOM, 491520);
-NUMBER(SFS_API, 3);
+NUMBER(SFS_API, 2);
 
 NUMBER(SFS_OK, 0);
 NUMBER(SFS_IMAGE_LENGTH, 1);
@@ -153,11 +152,6 @@ static int zero_volume(struct sfs_volume a, uint32_t refusal) {
 
 static int zero_entry(struct sfs_entry a, uint32_t refusal) {
     return entry_is(a, (struct sfs_entry){.refusal = refusal});
-}
-
-/* Nothing is found, and zeros, but for the steps of the whole walk. */
-static int not_found(struct sfs_entry a, uint64_t steps) {
-    return entry_is(a, (struct sfs_entry){.refusal = SFS_NOT_FOUND, .steps = steps});
 }
 
 static int zero_listed(struct sfs_listed a, uint32_t refusal) {
@@ -280,12 +274,10 @@ static void every_field(uint32_t edition) {
     uint64_t past = edition == SFS_VERSION_1_0; /* an end is the block past the region, or its last */
     CHECK(volume_is(sfs_open(image, 65536, out, 6), stamped_volume(edition)));
     CHECK(entry_is(sfs_find(image, 65536, B("d/first")),
-                   (struct sfs_entry){.kind = SFS_FILE, .slot = 2, .start = 3, .end = 7 + past, .length = 2100, .stamp = FIRST,
-                                      .steps = 2}));
+                   (struct sfs_entry){.kind = SFS_FILE, .slot = 2, .start = 3, .end = 7 + past, .length = 2100, .stamp = FIRST}));
     CHECK(entry_is(sfs_find(image, 65536, B("d/the-second")),
-                   (struct sfs_entry){.kind = SFS_FILE, .slot = 1, .start = 8, .end = 9 + past, .length = 1000, .stamp = SECOND,
-                                      .steps = 1}));
-    CHECK(entry_is(sfs_find(image, 65536, B("d")), (struct sfs_entry){.kind = SFS_DIRECTORY, .slot = 3, .stamp = MADE, .steps = 3}));
+                   (struct sfs_entry){.kind = SFS_FILE, .slot = 1, .start = 8, .end = 9 + past, .length = 1000, .stamp = SECOND}));
+    CHECK(entry_is(sfs_find(image, 65536, B("d")), (struct sfs_entry){.kind = SFS_DIRECTORY, .slot = 3, .stamp = MADE}));
     CHECK(listed_is(sfs_list(image, 65536, 0, out, 12),
                     (struct sfs_listed){.kind = SFS_FILE, .slot = 1, .start = 8, .end = 9 + past, .length = 1000,
                                         .stamp = SECOND, .path_length = 12}));
@@ -297,7 +289,7 @@ static void every_field(uint32_t edition) {
     CHECK(content_is(sfs_read(image, 65536, B("d/first"), out, 2101), (struct sfs_content){.length = 2100}));
     CHECK(out[0] == 0xA5 && out[2099] == 0xA5 && out[2100] == 0);
     CHECK(sfs_create_file(image, 65536, B("d/empty"), NULL, 0, LATER) == SFS_OK);
-    CHECK(entry_is(sfs_find(image, 65536, B("d/empty")), (struct sfs_entry){.kind = SFS_FILE, .slot = 1, .stamp = LATER, .steps = 1}));
+    CHECK(entry_is(sfs_find(image, 65536, B("d/empty")), (struct sfs_entry){.kind = SFS_FILE, .slot = 1, .stamp = LATER}));
     CHECK(content_is(sfs_read(image, 65536, B("d/empty"), NULL, 0), (struct sfs_content){.length = 0}));
     free(image);
     free(out);
@@ -319,7 +311,7 @@ static void stamps_of_writes(void) {
     CHECK(volume_is(sfs_open(image, 65536, out, 6), trimmed));
     CHECK(sfs_create_directory(image, 65536, B("e"), LATER) == SFS_OK);
     CHECK(volume_is(sfs_open(image, 65536, out, 6), trimmed));
-    CHECK(entry_is(sfs_find(image, 65536, B("e")), (struct sfs_entry){.kind = SFS_DIRECTORY, .slot = 1, .stamp = LATER, .steps = 1}));
+    CHECK(entry_is(sfs_find(image, 65536, B("e")), (struct sfs_entry){.kind = SFS_DIRECTORY, .slot = 1, .stamp = LATER}));
     free(image);
     free(before);
 }
@@ -347,7 +339,7 @@ static void creates_refused(void) {
 static void reads(void) {
     uint8_t *image = session(), out[16];
     memset(out, 7, sizeof out);
-    CHECK(not_found(sfs_find(image, 65536, B("session/absent")), 2));
+    CHECK(zero_entry(sfs_find(image, 65536, B("session/absent")), SFS_NOT_FOUND));
     CHECK(zero_entry(sfs_find(image, 65536, B("..")), SFS_NAME));
     CHECK(content_is(sfs_read(image, 65536, B("session/verified"), out, 3), (struct sfs_content){.length = 3}));
     CHECK(memcmp(out, "yes\7", 4) == 0);
@@ -380,7 +372,7 @@ static void deletes(delete_call *call, uint64_t data_blocks) {
     CHECK(call(image, 65536, B("session"), 1) == SFS_NOT_EMPTY);
     CHECK(call(image, 65536, B("session/verified"), 1) == SFS_OK);
     CHECK(call(image, 65536, B("session/verified"), 1) == SFS_NOT_FOUND);
-    CHECK(not_found(sfs_find(image, 65536, B("session/verified")), 2));
+    CHECK(zero_entry(sfs_find(image, 65536, B("session/verified")), SFS_NOT_FOUND));
     CHECK(sfs_open(image, 65536, out, 16).data_blocks == data_blocks);
     CHECK(sfs_reclaim(image, 65536, 2) == SFS_OK);
     CHECK(sfs_open(image, 65536, out, 16).data_blocks == 0);
@@ -417,7 +409,7 @@ static void restores_directories(void) {
     CHECK(sfs_restore(image, 65536, B("session/verified"), 3) == SFS_NO_DIRECTORY);
     CHECK(sfs_restore(image, 65536, B("session"), 3) == SFS_OK);
     CHECK(sfs_find(image, 65536, B("session")).kind == SFS_DIRECTORY);
-    CHECK(not_found(sfs_find(image, 65536, B("session/verified")), 2));
+    CHECK(zero_entry(sfs_find(image, 65536, B("session/verified")), SFS_NOT_FOUND));
     CHECK(sfs_restore(image, 65536, B("session/verified"), 3) == SFS_OK);
     CHECK(content_is(sfs_read(image, 65536, B("session/verified"), out, 4), (struct sfs_content){.length = 3}));
     CHECK(memcmp(out, "yes", 4) == 0);
@@ -670,8 +662,8 @@ static void names_in_utf8(void) {
     CHECK(sfs_create_directory(image, 65536, B("prêts"), 0) == SFS_OK);
     CHECK(sfs_create_file(image, 65536, B("prêts/¡日本語 𣎴"), B("yes"), 0) == SFS_OK);
     CHECK(sfs_find(image, 65536, B("prêts/¡日本語 𣎴")).length == 3);
-    CHECK(not_found(sfs_find(image, 65536, B("PRÊTS")), 2));
-    CHECK(not_found(sfs_find(image, 65536, B("pre\xCC\x82ts")), 2)); /* e and its accent apart: other bytes */
+    CHECK(zero_entry(sfs_find(image, 65536, B("PRÊTS")), SFS_NOT_FOUND));
+    CHECK(zero_entry(sfs_find(image, 65536, B("pre\xCC\x82ts")), SFS_NOT_FOUND)); /* e and its accent apart: other bytes */
     CHECK(text_is(image, 65536,
                   "À la page\n"
                   "F 3 1970-01-01T00:00:00Z prêts/¡日本語 𣎴\n"
@@ -793,7 +785,7 @@ static void newer_deletes(void) {
     memcpy(slot, unused, 64);
     CHECK(memcmp(image, before, 65536) == 0);
     CHECK(volume_is(sfs_open(image, 65536, out, 6), stamped_volume(SFS_VERSION_1_10)));
-    CHECK(not_found(sfs_find(image, 65536, B("d/the-second")), 3));
+    CHECK(zero_entry(sfs_find(image, 65536, B("d/the-second")), SFS_NOT_FOUND));
     CHECK(sfs_delete_keep(image, 65536, B("d/the-second"), DELETED) == SFS_NOT_FOUND);
     CHECK(refused_restore(image, B("d/the-second")) == SFS_NOT_FOUND);
     CHECK(refused_restore(image, B("d/first")) == SFS_NOT_FOUND); /* live */
@@ -821,7 +813,7 @@ static void newer_reclaims(void) {
     CHECK(volume_is(sfs_open(image, 65536, out, 6), trimmed));
     CHECK(sfs_create_directory(image, 65536, B("d/e"), LATER) == SFS_OK);
     CHECK(volume_is(sfs_open(image, 65536, out, 6), trimmed));
-    CHECK(entry_is(sfs_find(image, 65536, B("d/e")), (struct sfs_entry){.kind = SFS_DIRECTORY, .slot = 1, .stamp = LATER, .steps = 1}));
+    CHECK(entry_is(sfs_find(image, 65536, B("d/e")), (struct sfs_entry){.kind = SFS_DIRECTORY, .slot = 1, .stamp = LATER}));
     free(image);
 }
 
@@ -896,7 +888,7 @@ static void deleted_runs(void) {
             run[2] = 2;
             add(run + 1, -1);
         }
-        CHECK(not_found(sfs_find(image, 65536, B("a name that has 29 bytes here")), 2));
+        CHECK(zero_entry(sfs_find(image, 65536, B("a name that has 29 bytes here")), SFS_NOT_FOUND));
         run[64] = 0x02; /* inside a run it is of no kind; else it is a marker in a wrong place */
         add(run + 1, -2);
         CHECK(sfs_open(image, 65536, NULL, 0).refusal == (is == RIGHT ? SFS_OK : SFS_INDEX));
@@ -946,7 +938,7 @@ static void unusable_blocks(void) {
     memcpy(slot, unusable, 64);
     CHECK(sfs_create_file(image, 65536, B("d/new"), B("yes"), LATER) == SFS_OK);
     CHECK(entry_is(sfs_find(image, 65536, B("d/new")),
-                   (struct sfs_entry){.kind = SFS_FILE, .slot = 1, .start = 10, .end = 10, .length = 3, .stamp = LATER, .steps = 1}));
+                   (struct sfs_entry){.kind = SFS_FILE, .slot = 1, .start = 10, .end = 10, .length = 3, .stamp = LATER}));
     slot[0] = 0x10;
     CHECK(sfs_open(image, 65536, out, 6).refusal == SFS_OK);
     free(image);
@@ -987,59 +979,6 @@ static void newer_name_lengths(void) {
         CHECK(sfs_find(image, 65536, path, n).refusal == SFS_OK && sfs_find(image, 65536, path, n - 1).refusal == SFS_NOT_FOUND);
     }
     CHECK(sfs_create_file(image, 65536, path, 286, NULL, 0, 0) == SFS_NAME);
-    free(image);
-}
-
-/* ---- how far a find goes */
-
-/* The steps of a find that finds nothing. */
-static uint64_t whole_walk(const uint8_t *image) {
-    uint8_t out[8];
-    struct sfs_entry nothing = sfs_find(image, 65536, B("nowhere"));
-    CHECK(not_found(nothing, nothing.steps));
-    CHECK(nothing.steps <= sfs_open(image, 65536, out, 8).index_bytes / SFS_SLOT_BYTES);
-    return nothing.steps;
-}
-
-/* An entry counts one, whatever slots continue its name, and so do one that is deleted and kept and an unused slot. */
-static void steps(uint32_t edition) {
-    uint8_t *image = new_image(65536), name[100];
-    memset(name, 'n', sizeof name);
-    CHECK(sfs_format(image, 65536, edition, 512, 2, B("STEPS"), 0) == SFS_OK);
-    CHECK(whole_walk(image) == 0);
-    CHECK(sfs_create_file(image, 65536, name, 100, B("yes"), 0) == SFS_OK); /* three slots */
-    CHECK(sfs_find(image, 65536, name, 100).steps == 1 && whole_walk(image) == 1);
-    CHECK(sfs_create_directory(image, 65536, B("d"), 0) == SFS_OK);
-    CHECK(sfs_create_file(image, 65536, B("d/f"), B("yes"), 0) == SFS_OK);
-    CHECK(sfs_find(image, 65536, B("d/f")).steps == 1 && sfs_find(image, 65536, B("d")).steps == 2);
-    struct sfs_entry last = sfs_find(image, 65536, name, 100);
-    CHECK(last.slot == 3 && last.steps == 3 && whole_walk(image) == 3);
-    CHECK(zero_entry(sfs_find(image, 65536, B("d/")), SFS_NAME));
-    CHECK(sfs_delete_keep(image, 65536, B("d/f"), 0) == SFS_OK);
-    CHECK(sfs_find(image, 65536, B("d")).steps == 2 && not_found(sfs_find(image, 65536, B("d/f")), 3));
-    CHECK(sfs_delete(image, 65536, name, 100, 0) == SFS_OK); /* its three slots are unused */
-    CHECK(sfs_find(image, 65536, B("d")).steps == 2 && whole_walk(image) == 5);
-    image[65536 - 64] = 0x03; /* no identifier */
-    CHECK(zero_entry(sfs_find(image, 65536, B("d")), SFS_INDEX) && zero_entry(sfs_find(image, 65536, B("nowhere")), SFS_INDEX));
-    free(image);
-}
-
-/* Edition 1.10: an unusable entry counts one, a stray slot too, and of a right deleted run each slot. */
-static void newer_steps(void) {
-    static const uint8_t unusable[64] = {0x18, 0xD7, [10] = 8, [18] = 9}, deleted[64] = {0x19, 0xE6, 1};
-    uint8_t *image = stamped(SFS_VERSION_1_10), *slots = image + 65536 - 320;
-    CHECK(sfs_delete_keep(image, 65536, B("d/the-second"), DELETED) == SFS_OK);
-    memcpy(slots + 64, unusable, 64);
-    CHECK(sfs_find(image, 65536, B("d/first")).steps == 2 && whole_walk(image) == 3);
-    slots[64] = 'x';
-    CHECK(sfs_find(image, 65536, B("d/first")).steps == 2 && whole_walk(image) == 3);
-    CHECK(sfs_delete_keep(image, 65536, B("d/first"), DELETED) == SFS_OK);
-    memcpy(slots + 64, deleted, 64);
-    memset(slots + 128, 0, 64);
-    CHECK(sfs_find(image, 65536, B("d")).steps == 3 && whole_walk(image) == 3);
-    slots[128] = SFS_FILE; /* inside the run it is of no kind */
-    add(slots + 65, -(int)SFS_FILE);
-    CHECK(sfs_find(image, 65536, B("d")).steps == 3 && whole_walk(image) == 3);
     free(image);
 }
 
@@ -1096,7 +1035,7 @@ static void wipes_last(uint32_t edition) {
     CHECK(sfs_delete(image, 65536, B("d/the-second"), DELETED) == SFS_OK);
     CHECK(memcmp(image, wanted, 65536) == 0);
     CHECK(volume_is(sfs_open(image, 65536, out, 6), trimmed));
-    CHECK(not_found(sfs_find(image, 65536, B("d/the-second")), 3));
+    CHECK(zero_entry(sfs_find(image, 65536, B("d/the-second")), SFS_NOT_FOUND));
     CHECK(sfs_delete(image, 65536, B("d/the-second"), LATER) == SFS_NOT_FOUND);
     CHECK(refused_restore(image, B("d/the-second")) == SFS_NOT_FOUND);
     free(image);
@@ -1543,9 +1482,6 @@ int main(void) {
     names_in_utf8();
     names_over_slots();
     newer();
-    steps(SFS_VERSION_1_0);
-    steps(SFS_VERSION_1_10);
-    newer_steps();
     wipes(SFS_VERSION_1_0);
     wipes(SFS_VERSION_1_10);
     deletes_refused_by_index();

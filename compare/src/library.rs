@@ -28,7 +28,6 @@ struct Entry {
     end: u64,
     length: u64,
     stamp: i64,
-    steps: u64,
 }
 
 #[repr(C)]
@@ -142,7 +141,6 @@ impl Store for Library {
             end: a.end,
             length: a.length,
             stamp: a.stamp,
-            steps: a.steps,
         }
     }
 

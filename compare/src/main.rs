@@ -23,7 +23,7 @@ use second::selftest::{call_table, newer_table, region_table, report_table, rest
 use second::Edition;
 use std::process::ExitCode;
 
-const USAGE: &str = "usage: compare [counts] SEED CALLS [history|damage|built|edges|args|names|restore|tails|crowded|sums|editions|report|regions|wiping|steps]
+const USAGE: &str = "usage: compare [counts] SEED CALLS [history|damage|built|edges|args|names|restore|tails|crowded|sums|editions|report|regions|wiping]
        compare bench [VOLUMES]
        compare regions
        compare names";

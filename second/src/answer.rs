@@ -1,5 +1,5 @@
 //! The answers of the calls: the refusal number first, then the call's other numbers, all of which
-//! are zero on a refusal; only a find that finds nothing says how far it went.
+//! are zero on a refusal.
 
 use crate::index::Entry;
 use crate::refusal::Refusal;
@@ -41,8 +41,6 @@ pub struct Found {
     pub end: u64,
     pub length: u64,
     pub stamp: i64,
-    /// How many entry heads and unused slots the search stepped on; with refusal 11 all there are.
-    pub steps: u64,
 }
 
 /// The answer of list; kind 0, without a refusal, says that no live entry is left.
@@ -88,7 +86,7 @@ impl From<Result<(), Refusal>> for Written {
 }
 
 impl Found {
-    pub fn of(entry: &Entry, steps: u64) -> Self {
+    pub fn of(entry: &Entry) -> Self {
         Found {
             refusal: 0,
             slot: entry.slot,
@@ -97,7 +95,6 @@ impl Found {
             end: entry.end,
             length: entry.length,
             stamp: entry.stamp,
-            steps,
         }
     }
 }

@@ -24,7 +24,6 @@ pub mod report;
 pub mod script;
 pub mod selftest;
 pub mod sharing;
-pub mod steps;
 pub mod store;
 pub mod superblock;
 pub mod volume;

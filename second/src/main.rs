@@ -10,7 +10,7 @@ use std::process::ExitCode;
 
 const USAGE: &str = "usage: second run < SCRIPT
        second gen SEED COUNT [history|damage|built|edges|args|names|restore|tails|crowded|sums|editions|report|regions|
-                              wiping|steps]
+                              wiping]
        second selftest SEED SCRIPTS
        second listing < IMAGE
        second report < NAMES

@@ -4,7 +4,6 @@ use crate::answer::{Found, Listed, Opened, Read, Records};
 use crate::bytes::put;
 use crate::index::{Entry, FILE};
 use crate::refusal::{self, Refusal};
-use crate::steps;
 use crate::volume::Volume;
 
 /// Where the path starts in a record, behind seven numbers.
@@ -39,25 +38,10 @@ fn try_open(image: &[u8], output: &mut [u8]) -> Result<Opened, Refusal> {
     })
 }
 
-/// Finds the live entry of a path, and says how far the search went.
+/// Finds the live entry of a path.
 pub fn find(image: &[u8], path: &[u8]) -> Found {
-    match try_find(image, path) {
-        Ok(found) => found,
-        Err(refusal) => Found { refusal, ..Found::default() },
-    }
-}
-
-/// A path that is not live is no error here, since the answer has more than its number.
-fn try_find(image: &[u8], path: &[u8]) -> Result<Found, Refusal> {
-    let volume = Volume::judge(image)?;
-    let geometry = &volume.super_block.geometry;
-    match volume.lookup(path) {
-        Ok(entry) => Ok(Found::of(entry, steps::up_to(image, geometry, entry.slot))),
-        Err(refusal @ refusal::NOT_LIVE) => {
-            Ok(Found { refusal, steps: steps::whole(image, geometry), ..Found::default() })
-        }
-        Err(refusal) => Err(refusal),
-    }
+    let found = Volume::judge(image).and_then(|volume| volume.lookup(path).map(Found::of));
+    found.unwrap_or_else(|refusal| Found { refusal, ..Found::default() })
 }
 
 /// The live entry with the lowest first slot at or above `slot`, its path at the start of `output`.

@@ -43,8 +43,5 @@ pub const OF_REPORT: [Refusal; 10] = [0, 1, 2, 3, 4, 5, 6, 7, 8, 18];
 /// The numbers that a table of regions can be answered with.
 pub const OF_REGIONS: [Refusal; 9] = [0, 1, 2, 3, 4, 5, 6, 7, 18];
 
-/// The numbers that find can answer.
-pub const OF_FIND: [Refusal; 11] = [0, 1, 2, 3, 4, 5, 6, 7, 8, 10, 11];
-
 /// How often each number was answered, success at place 0.
 pub type Counts = [u64; HIGHEST as usize + 1];

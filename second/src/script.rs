@@ -442,7 +442,7 @@ fn opened(answer: Opened) -> Numbers {
 fn found(answer: Found) -> Numbers {
     let mut numbers =
         [answer.slot, answer.kind.into(), answer.start, answer.end, answer.length].map(i128::from).to_vec();
-    numbers.extend([answer.stamp.into(), i128::from(answer.steps)]);
+    numbers.push(answer.stamp.into());
     (answer.refusal, numbers)
 }
 

@@ -2,7 +2,7 @@
 
 use crate::edition::Edition;
 use crate::generator;
-use crate::refusal::{Counts, Refusal, OF_1_10, OF_DELETE, OF_FIND, OF_REGIONS, OF_REPORT, OF_RESTORE};
+use crate::refusal::{Counts, Refusal, OF_1_10, OF_DELETE, OF_REGIONS, OF_REPORT, OF_RESTORE};
 use crate::script::{Called, Session};
 use std::collections::BTreeMap;
 use std::fmt;
@@ -28,8 +28,6 @@ pub struct Tally {
     pub reports: Counts,
     /// The same for the tables of regions.
     pub regions: Counts,
-    /// The same for the finds.
-    pub finds: Counts,
     pub failures: Vec<String>,
 }
 
@@ -71,7 +69,6 @@ fn run_one(script: String, place: u64, tally: &mut Tally) {
     add(&mut tally.newer, &session.answers_in(Edition::V1_10));
     add(&mut tally.reports, &session.answers("reportadd"));
     add(&mut tally.regions, &session.answers("regions"));
-    add(&mut tally.finds, &session.answers("find"));
 }
 
 /// Whether this line says that one engine found a shared block, or a refusal, where the other did not.
@@ -109,11 +106,6 @@ pub fn region_table(counts: &Counts) -> String {
     table("regions", &OF_REGIONS, counts)
 }
 
-/// A line for each number that find can answer.
-pub fn find_table(counts: &Counts) -> String {
-    table("find", &OF_FIND, counts)
-}
-
 /// A line for each call, edition and number that was met: word, edition, number, how often.
 pub fn call_table(met: &BTreeMap<Called, Counts>) -> String {
     let lines = met.iter().flat_map(|((word, edition), counts)| {
@@ -140,7 +132,6 @@ impl fmt::Display for Tally {
         text.write_str(&newer_table(&self.newer))?;
         text.write_str(&report_table(&self.reports))?;
         text.write_str(&region_table(&self.regions))?;
-        text.write_str(&find_table(&self.finds))?;
         writeln!(text, "scripts {} calls {}", self.scripts, self.calls)
     }
 }

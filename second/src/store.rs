@@ -4,7 +4,7 @@ use crate::answer::{Found, Listed, Opened, Read, Records, Tabled, Written};
 use crate::sharing::TableRegion;
 
 /// The number of the interface, raised whenever a struct, an argument or what a call does changes.
-pub const API: u32 = 3;
+pub const API: u32 = 2;
 
 pub trait Store {
     fn api(&self) -> u32;

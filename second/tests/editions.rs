@@ -195,7 +195,6 @@ fn the_file_entry_of_document_004() {
         end: 0x435,
         length: 76_444,
         stamp: 0x0000_5BA6_D89F_0000,
-        steps: 1,
     };
     assert_eq!(find(&image, b"system/boot/loader.sys"), expected);
     image[area + 65] ^= 1;
@@ -258,7 +257,7 @@ fn a_file_of_three_bytes_in_a_directory() {
     let mut output = [0xEE; 6];
     assert_eq!(open(&image, &mut output), opened);
     assert_eq!(&output, b"TERM7\xEE");
-    let found = Found { refusal: 0, slot: 1, kind: 0x12, start: 2, end: 2, length: 3, stamp: -1, steps: 1 };
+    let found = Found { refusal: 0, slot: 1, kind: 0x12, start: 2, end: 2, length: 3, stamp: -1 };
     assert_eq!(find(&image, b"session/verified"), found);
     let mut output = [0xEE; 16];
     let Found { slot, kind, start, end, length, stamp, .. } = found;

@@ -26,7 +26,7 @@ fn scripts_are_the_same_every_time() {
     #[rustfmt::skip]
     let kinds = [
         "history", "damage", "built", "edges", "args", "names", "restore", "tails", "crowded", "sums", "editions",
-        "report", "regions", "wiping", "steps",
+        "report", "regions", "wiping",
     ];
     for kind in kinds {
         let script = generator::script(3, 200, Some(kind));
@@ -288,10 +288,10 @@ fn lines_are_as_described() {
         "listall 18 0 0 0",
         "listall 0 0 0 0",
         "read 18 0",
-        "find 0 1 18 1 2 3 9 1",
+        "find 0 1 18 1 2 3 9",
         "listing 18 0",
         "listing 0 44",
-        "api 3",
+        "api 2",
         "history ok",
         "history none",
     ];

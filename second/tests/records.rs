@@ -19,9 +19,8 @@ use second::{Records, API};
 use std::collections::{BTreeMap, BTreeSet};
 
 #[rustfmt::skip]
-const KINDS: [&str; 13] = [
+const KINDS: [&str; 12] = [
     "history", "damage", "built", "edges", "args", "names", "restore", "tails", "crowded", "sums", "editions", "wiping",
-    "steps",
 ];
 
 /// list_all in the words of its rule: what list answers one after the other.
@@ -409,5 +408,5 @@ fn listing_wants_its_room() {
 
 #[test]
 fn one_number_of_the_interface() {
-    assert_eq!((Own.api(), API), (3, 3));
+    assert_eq!((Own.api(), API), (2, 2));
 }

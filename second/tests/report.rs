@@ -19,9 +19,9 @@ use std::path::PathBuf;
 use std::process::{Command, Stdio};
 
 #[rustfmt::skip]
-const FAMILIES: [&str; 14] = [
+const FAMILIES: [&str; 13] = [
     "history", "damage", "built", "edges", "args", "names", "restore", "tails", "crowded", "sums", "editions",
-    "regions", "wiping", "steps",
+    "regions", "wiping",
 ];
 
 /// The lines of a report over these images.

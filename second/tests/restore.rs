@@ -413,7 +413,7 @@ const STORY: [(&str, &str); 36] = [
     ("history", "history ok"),
     ("restore 642f66 5", "restore 11"),
     ("mkfile 62 5 fill:1024:3", "mkfile 0"),
-    ("find 62", "find 0 1 18 3 5 1024 5 1"),
+    ("find 62", "find 0 1 18 3 5 1024 5"),
     ("read 61 600", "read 0 600"),
     ("deletekeep 61 6", "deletekeep 0"),
     ("mkfile 61 6 fill:512:4", "mkfile 0"),

@@ -419,7 +419,7 @@ fn every_family_in_both_editions() {
     #[rustfmt::skip]
     let kinds = [
         "history", "damage", "built", "edges", "args", "names", "restore", "tails", "crowded", "editions", "regions",
-        "wiping", "steps",
+        "wiping",
     ];
     for kind in kinds {
         let mut read = BTreeMap::new();

@@ -3,9 +3,7 @@
 
 mod common;
 
-use common::laying::{directory, file, gone, laid, places, run, slot_at, unjudged, unusable, unused, with};
-use common::laying::{FULL, NEW, OLD};
-use common::{changed, number, plays, put, unhex};
+use common::{changed, put};
 use second::generator;
 use second::history::{History, Told};
 use second::index::{Entry, DELETED_FILE, UNUSABLE};
@@ -14,18 +12,112 @@ use second::script::Session;
 use second::selftest;
 use second::superblock::Geometry;
 use second::volume::Volume;
-use second::{create_directory, create_file, delete, delete_keep, find, format, read, reclaim, restore, Edition};
+use second::{create_directory, create_file, delete, delete_keep, find, format, open, read, reclaim, restore, Edition};
 use std::collections::BTreeMap;
 use std::ops::Range;
 
+const OLD: Edition = Edition::V1_0;
+const NEW: Edition = Edition::V1_10;
+
+/// What no field needs has this byte, so that a write where none belongs shows.
+const FULL: u8 = 0xEE;
 /// A stamp, and its bytes.
 const STAMP: i64 = -0x0102_0304_0506_0708;
 const STAMP_BYTES: [u8; 8] = [0xF8, 0xF8, 0xF9, 0xFA, 0xFB, 0xFC, 0xFD, 0xFE];
+
+/// Where the super-block has its stamp, data area and index area.
+fn places(edition: Edition) -> [usize; 3] {
+    match edition {
+        OLD => [0x194, 0x19C, 0x1A4],
+        NEW => [0x18E, 0x196, 0x19E],
+    }
+}
+
+fn number(image: &[u8], at: usize) -> u64 {
+    u64::from_le_bytes(image[at..at + 8].try_into().unwrap())
+}
 
 /// The data area, and the stamp of the super-block.
 fn sizes(image: &[u8], edition: Edition) -> (u64, i64) {
     let [stamp, data, _] = places(edition);
     (number(image, data), number(image, stamp) as i64)
+}
+
+/// Makes a run sum to 0 where the edition has sums.
+fn summed(edition: Edition, mut run: Vec<u8>) -> Vec<u8> {
+    if edition == NEW {
+        run[1] = 0;
+        run[1] = run.iter().fold(0u8, |sum, byte| sum.wrapping_add(*byte)).wrapping_neg();
+    }
+    run
+}
+
+/// A run of so many slots: a file, live or deleted, with its first block, the one past its last, and its length; or a
+/// directory. Behind the name's zero stands what no one judges.
+fn run(edition: Edition, kind: u8, slots: usize, name: &[u8], numbers: [u64; 3]) -> Vec<u8> {
+    let later = usize::from(edition == NEW);
+    let is_file = matches!(kind, 0x12 | 0x1A);
+    let name_at = later + if is_file { 34 } else { 10 };
+    let [start, past, length] = numbers;
+    let end = if edition == NEW && past > 0 { past - 1 } else { past };
+    let mut run = vec![0xAB; 64 * slots];
+    run[0] = kind;
+    run[1 + later] = slots as u8 - 1;
+    put(&mut run, 2 + later, &[9; 8]);
+    if is_file {
+        put(&mut run, 10 + later, &[start, end, length].map(u64::to_le_bytes).concat());
+    }
+    put(&mut run, name_at, &[name, b"\0"].concat());
+    summed(edition, run)
+}
+
+fn file(edition: Edition, name: &[u8], numbers: [u64; 3]) -> Vec<u8> {
+    run(edition, 0x12, 1, name, numbers)
+}
+
+fn directory(edition: Edition, name: &[u8]) -> Vec<u8> {
+    run(edition, 0x11, 1, name, [0; 3])
+}
+
+fn gone(edition: Edition, name: &[u8], numbers: [u64; 3]) -> Vec<u8> {
+    run(edition, 0x1A, 1, name, numbers)
+}
+
+fn unusable(edition: Edition, start: u64, past: u64) -> Vec<u8> {
+    let end = if edition == NEW { past - 1 } else { past };
+    let mut slot = vec![0xAB; 64];
+    slot[0] = 0x18;
+    put(&mut slot, 10, &[start, end].map(u64::to_le_bytes).concat());
+    summed(edition, slot)
+}
+
+/// Unused slots as calls write them.
+fn unused(edition: Edition, slots: usize) -> Vec<u8> {
+    let mut slot = [0; 64];
+    slot[0] = 0x10;
+    slot[1] = if edition == NEW { 0xF0 } else { 0 };
+    slot.repeat(slots)
+}
+
+/// A volume of 16 blocks of 512 bytes, one of them reserved, with this data area and these runs between the markers.
+fn laid(edition: Edition, data: u64, runs: &[Vec<u8>]) -> Vec<u8> {
+    let mut image = vec![FULL; 8192];
+    assert_eq!(format(&mut image, edition.version().into(), 512, 1, b"V", 7).refusal, 0);
+    let slots = runs.concat();
+    let [_, data_at, index_at] = places(edition);
+    put(&mut image, data_at, &data.to_le_bytes());
+    put(&mut image, index_at, &(128 + slots.len() as u64).to_le_bytes());
+    let marker = 8192 - 128 - slots.len();
+    put(&mut image, marker, &[0; 64]);
+    put(&mut image, marker, if edition == NEW { &[2, 0xFE] } else { &[2, 0] });
+    put(&mut image, marker + 64, &slots);
+    assert_eq!(open(&image, &mut [0; 1]).refusal, 0);
+    image
+}
+
+/// The byte offset of a slot between the markers, the first being 1.
+fn slot_at(image: &[u8], edition: Edition, slot: usize) -> usize {
+    image.len() - number(image, places(edition)[2]) as usize + 64 * slot
 }
 
 /// The image with zeros in these blocks, unused slots from this one on, and at last the sizes of a changed data area.
@@ -209,6 +301,15 @@ fn both(image: &[u8], path: &[u8]) -> u8 {
     wiping
 }
 
+/// The image with these bytes, the checksum of the super-block made right.
+fn with(image: &[u8], edition: Edition, at: usize, bytes: &[u8]) -> Vec<u8> {
+    let mut image = image.to_vec();
+    put(&mut image, at, bytes);
+    let checksum = second::superblock::checksum(&image, edition);
+    image[if edition == NEW { 0x1B7 } else { 0x1BD }] = checksum;
+    image
+}
+
 #[test]
 fn both_calls_refuse_alike() {
     for edition in Edition::ALL {
@@ -235,6 +336,14 @@ fn both_calls_refuse_alike() {
             assert_eq!([both(&shared, path), both(&homeless, path)], [7, 8]);
         }
     }
+}
+
+/// As `laid`, of a volume that does not open.
+fn unjudged(edition: Edition, runs: &[Vec<u8>]) -> Vec<u8> {
+    let mut image = laid(edition, 4, &[unused(edition, runs.len())]);
+    let at = slot_at(&image, edition, 1);
+    put(&mut image, at, &runs.concat());
+    image
 }
 
 #[test]
@@ -299,6 +408,15 @@ fn one_path_kept_and_live() {
     }
     assert_eq!(delete(&mut image, b"p", 6).refusal, 0);
     assert_eq!((restore(&mut image, b"p", 7).refusal, delete(&mut image, b"p", 7).refusal), (19, 11));
+}
+
+/// Runs lines and asserts what each of them prints.
+fn plays(story: &[(&str, &str)]) {
+    let mut session = Session::without_digests();
+    for (line, text) in story {
+        let printed = session.execute(line).unwrap().unwrap_or_default();
+        assert_eq!(printed, *text, "{line}");
+    }
 }
 
 #[test]
@@ -384,6 +502,11 @@ struct Met<'a> {
     blocks: Range<usize>,
     /// The end of the last region that is left.
     end: u64,
+}
+
+fn unhex(word: &str) -> Vec<u8> {
+    let digits = if word == "-" { "" } else { word };
+    (0..digits.len()).step_by(2).map(|at| u8::from_str_radix(&digits[at..at + 2], 16).unwrap()).collect()
 }
 
 fn past(edition: Edition, end: u64) -> u64 {
@@ -535,7 +658,7 @@ fn every_family_meets_both_calls() {
     #[rustfmt::skip]
     let kinds = [
         "history", "damage", "built", "edges", "args", "names", "restore", "tails", "crowded", "editions", "report",
-        "regions", "wiping", "steps",
+        "regions", "wiping",
     ];
     for kind in kinds {
         let mut session = Session::without_digests();

@@ -10,18 +10,18 @@ use Rattle.rules.specs.Names.{path_good}
 use Rattle.rules.specs.Index.{Entry}
 use Rattle.rules.specs.Paths.{lookup, any_below}
 use Rattle.rules.specs.Refusals.{accepted, Volume, entries, judge}
-use Rattle.rules.specs.Writing.{Written, Writes, on_deletable}
+use Rattle.rules.specs.Writing.{Written, on_deletable}
 use Rattle.rules.specs.Writing.Laws.{tidy_image}
 use Rattle.laws.proofs.Images.Accepted.{passed-need, passed-found, passed-writable, passed-done}
 
-pub record DeletePassed (s : List ℕ) (v : Volume) (path : List ℕ) (write : Writes) : Type 0 where
+pub record DeletePassed (s : List ℕ) (v : Volume) (path : List ℕ) (write : List ℕ → Volume → Entry → List ℕ) : Type 0 where
   pub named : path_good path ≡ true
   pub it : Entry
   pub found : lookup path (entries v) ≡ some it
   pub alone : any_below path (entries v) ≡ false
   pub image : (on_deletable s path write).image ≡ write (tidy_image s v) v it
 
-pub delete-passed : (s : List ℕ) (v : Volume) (path : List ℕ) (write : Writes) → judge s ≡ accepted v
+pub delete-passed : (s : List ℕ) (v : Volume) (path : List ℕ) (write : List ℕ → Volume → Entry → List ℕ) → judge s ≡ accepted v
     → (on_deletable s path write).refusal ≡ 0 → DeletePassed s v path write
 unfolding on_deletable
 delete-passed s v path write o z =

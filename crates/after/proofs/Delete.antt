@@ -56,9 +56,9 @@ run-back x g h e edition index room =
     (subst (λ (n : ℕ). part u at n ≡ bs) l (part-splice-in x at bs fits) ∙ ap (λ (ed : Edition). unused_bytes ed e.slots) edition)
 
 -- no bytes are zeros
-no-bytes-zero : (u : List ℕ) (a n : ℕ) → n ≡ 0 → part u a n ≡ replicate n 0
+none-zeros : (u : List ℕ) (a n : ℕ) → n ≡ 0 → part u a n ≡ replicate n 0
 unfolding part
-no-bytes-zero u a n e = rw e
+none-zeros u a n e = rw e
 
 module _ (s : List ℕ) (v : Volume) (path : List ℕ) (stamp : ℤ) (o : Opens s v) (d : DeletePassed s v path (wiped path stamp)) where
   abbrev g : Geometry
@@ -138,7 +138,7 @@ module _ (s : List ℕ) (v : Volume) (path : List ℕ) (stamp : ℤ) (o : Opens 
   region = by placed
     where
       by : Regionless e ⊎ Within g e → part (delete_of s path stamp).image (e.start * block_length g) bytes ≡ replicate bytes 0
-      by (inl r) = no-bytes-zero _ _ bytes (ap (λ (n : ℕ). n * block_length g) (omega (arith, r.end)) ∙ zero-mul (block_length g))
+      by (inl r) = none-zeros _ _ bytes (ap (λ (n : ℕ). n * block_length g) (omega (arith, r.end)) ∙ zero-mul (block_length g))
       by (inr i) =
           let inside = within_in (length t) g e o₂.geometry-good i in
           ap (λ (u : List ℕ). part u (e.start * block_length g) bytes) image-is

@@ -9,7 +9,7 @@ use lib.ListN.{length}
 use lib.IntN.{ℤ}
 use Rattle.rules.specs.Lists.{only}
 use Rattle.rules.specs.SuperBlock.{Geometry, block_length, data_end, trim_data, with_data, with_stamp, put_sizes}
-use Rattle.rules.specs.SuperBlock.Laws.{GoodGeometry, SameSealed, same_self, same-trim, same-restamp, as_stored, stored-block, stored-index, stored-edition}
+use Rattle.rules.specs.SuperBlock.Laws.{GoodGeometry, SameSealed, same_self, same-trim, same-restamp, as_stored, stored-block, stored-index}
 use Rattle.rules.specs.Index.{Entry, items_of}
 use Rattle.rules.specs.Regions.{regions_sound}
 use Rattle.rules.specs.Paths.{paths_sound}
@@ -57,6 +57,10 @@ module _ (s : List ℕ) (v : Volume) (stamp : ℤ) (o : Opens s v) (neat : IsTid
   shrinks : data_end h ≤ data_end g
   shrinks = omega (arith, restamp-end g (trim_data g (least_end stay)) stamp, trim-fits g q (entries v) (settled-entries s v o) o.regions-sound)
 
+  stored-edition : (as_stored h).edition ≡ h.edition
+  unfolding as_stored with_stamp
+  stored-edition = refl
+
   good : GoodGeometry (length s) h
   good = good-shrunk g h sealed (length s) index shrinks o.geometry-good
 
@@ -71,7 +75,7 @@ module _ (s : List ℕ) (v : Volume) (stamp : ℤ) (o : Opens s v) (neat : IsTid
   begun-super = sizes-super s h g (opens-super s v o) sealed good
 
   begun-ends : ends_good begun (as_stored h) ≡ true
-  begun-ends = sizes-ends s g h o.geometry-good (as_stored h) (stored-edition h ∙ edition) (stored-index h ∙ index) ∙ (ends-good s g v.items o.index-sound).0
+  begun-ends = sizes-ends s g h o.geometry-good (as_stored h) (stored-edition ∙ edition) (stored-index h ∙ index) ∙ (ends-good s g v.items o.index-sound).0
 
   begun-items : items_of begun h ≡ v.items
   begun-items = sizes-items s g h o.geometry-good h edition index ∙ sym o.items-are
@@ -98,7 +102,7 @@ module _ (s : List ℕ) (v : Volume) (stamp : ℤ) (o : Opens s v) (neat : IsTid
   pub trim-opens : paths_sound stay ≡ true → Opens image volume
   trim-opens paths =
       inner-opens begun image (as_stored h) begun-super.geometry-good (inner-index begun image h (as_stored h) (stored-index h) clears.inner) (cleared_items p v.items) begun-super begun-ends
-      (items-same image image h (as_stored h) refl (stored-index h) (stored-edition h) refl ∙ clears.items)
+      (items-same image image h (as_stored h) refl (stored-index h) stored-edition refl ∙ clears.items)
       (cleared-sound p v.items sound)
       (rw entries-are regions)
       (rw entries-are paths)
@@ -124,7 +128,7 @@ module _ (s : List ℕ) (v : Volume) (stamp : ℤ) (o : Opens s v) (neat : IsTid
   trim-left paths same = record {
     volume = volume;
     opens = opens-judge image volume (trim-opens paths);
-    edition = stored-edition h ∙ edition;
+    edition = stored-edition ∙ edition;
     blocks = block;
     agree = perm-of _ _ sees;
     unusable = perm-of _ _ (unusable same);

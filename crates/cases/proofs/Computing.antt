@@ -9,8 +9,8 @@ use Rattle.rules.specs.Index.{file_type, directory_type, run_type, live_type, de
 use Rattle.rules.specs.Regions.{extent_of, holds, blocks_of, within_data, file_region_good, region_good, apart, regions_sound, held_blocks, busy, run_free, lowest_from, lowest_free, blocks_needed}
 use Rattle.rules.specs.Paths.{is_live, live_at, is_deleted, deleted_at, lookup, is_directory_at, directory_live, directories_live, paths_differ, paths_sound, any_below, live_from, next_live}
 use Rattle.rules.specs.Refusals.{need, need_found, and_then, magic_good, edition_of, version_good, checksum_good, judge_index, judge_super, judge_geometry, judge, judge_read, judge_as}
-use Rattle.rules.specs.Outcome.{done, conclude, on_volume, no_volume, no_entry, numbers_of, none_found, none_listed}
-use Rattle.rules.specs.Reading.{volume_numbers, open_of, steps_to, search_of, with_steps, find_of, file_bytes, read_of, listed, list_of}
+use Rattle.rules.specs.Outcome.{done, conclude, on_volume, no_volume, no_entry, numbers_of, none_listed}
+use Rattle.rules.specs.Reading.{volume_numbers, open_of, find_of, file_bytes, read_of, listed, list_of}
 use Rattle.rules.specs.Records.{numbers_bytes, record_bytes, record_of, stop_at, with_record, record_step, records_from, no_records, records_outcome, list_all_of}
 use Rattle.rules.specs.Writing.{tidied, fresh_geometry, formatted, format_of, kind_of, bytes_of, nearest_live, unused_first, starts_unused, item_slot, lowest_unused, may_grow, grown_place, place_from, is_above, items_before, places_for, place_run, place_file, new_entry, put_marker, created, create_of, region_cleared, on_deletable, wiped, delete_of, deleted_kind, deleted, delete_keep_of, live_kind, restored, restore_of, cleared, least_end, reclaim_of}
 use Rattle.rules.specs.History.{passed, step, nothing, kept_of, kept_at, marked, revived, marked_in, struck_in, fed, feed, run, told}
@@ -41,8 +41,8 @@ unfolding
     blocks_needed
     is_live live_at is_deleted deleted_at lookup is_directory_at directory_live directories_live paths_differ paths_sound any_below live_from next_live
     need need_found and_then magic_good edition_of version_good checksum_good judge_index judge_super judge_geometry judge judge_read judge_as
-    done conclude on_volume no_volume no_entry numbers_of none_found none_listed
-    volume_numbers open_of steps_to search_of with_steps find_of file_bytes read_of listed list_of
+    done conclude on_volume no_volume no_entry numbers_of none_listed
+    volume_numbers open_of find_of file_bytes read_of listed list_of
     numbers_bytes record_bytes record_of stop_at with_record record_step records_from no_records records_outcome list_all_of
     tidied fresh_geometry formatted format_of kind_of bytes_of nearest_live unused_first starts_unused item_slot lowest_unused may_grow
     grown_place place_from is_above items_before places_for place_run place_file new_entry put_marker created create_of region_cleared

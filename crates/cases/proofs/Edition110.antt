@@ -182,8 +182,8 @@ filled-bytes = refl
 
 -- the end is the last block, and a directory has none
 pub filled-find :
-    ((find_of filled (text "d/f")).answer.found ≡ record { slot = 1; kind = type_file; start = 2; end = 2; length = 3; stamp = pos 7 })
-    × ((find_of filled (text "d")).answer.found ≡ record { slot = 2; kind = type_directory; start = 0; end = 0; length = 0; stamp = pos 6 })
+    ((find_of filled (text "d/f")).answer ≡ record { slot = 1; kind = type_file; start = 2; end = 2; length = 3; stamp = pos 7 })
+    × ((find_of filled (text "d")).answer ≡ record { slot = 2; kind = type_directory; start = 0; end = 0; length = 0; stamp = pos 6 })
     × ((list_of filled 0 (blank 3)).answer.found.end ≡ 2)
 unfolding everything
 filled-find = (refl, refl, refl)
@@ -198,19 +198,19 @@ filled-listing = refl
 
 -- two blocks, and none
 pub two_blocks :
-    (find_of (run (blank 1_536) (format 0x1A 256 2 [] (pos 0) ∷ create (new_file (replicate 257 7)) (text "a") (pos 1) ∷ [])) (text "a")).answer.found
+    (find_of (run (blank 1_536) (format 0x1A 256 2 [] (pos 0) ∷ create (new_file (replicate 257 7)) (text "a") (pos 1) ∷ [])) (text "a")).answer
     ≡ record { slot = 1; kind = type_file; start = 2; end = 3; length = 257; stamp = pos 1 }
 unfolding everything
 two_blocks = refl
 
 pub no_blocks :
-    (find_of (run small (create (new_file []) (text "a") (pos 6) ∷ [])) (text "a")).answer.found
+    (find_of (run small (create (new_file []) (text "a") (pos 6) ∷ [])) (text "a")).answer
     ≡ record { slot = 1; kind = type_file; start = 0; end = 0; length = 0; stamp = pos 6 }
 unfolding everything
 no_blocks = refl
 
 -- opening does not judge the order of entries: the directory first, then its file
-pub directory-first : (find_of (splice filled 832 (directory_slot ++ file_slot)) (text "d/f")).answer.found.slot ≡ 2
+pub directory-first : (find_of (splice filled 832 (directory_slot ++ file_slot)) (text "d/f")).answer.slot ≡ 2
 unfolding everything
 directory-first = refl
 
@@ -249,7 +249,7 @@ emptied-refusals = refl
 
 -- its block is free, its slot too: both are taken again
 pub taken-again :
-    (find_of (run emptied (create (new_file (text "no")) (text "d/g") (pos 9) ∷ [])) (text "d/g")).answer.found
+    (find_of (run emptied (create (new_file (text "no")) (text "d/g") (pos 9) ∷ [])) (text "d/g")).answer
     ≡ record { slot = 1; kind = type_file; start = 2; end = 2; length = 2; stamp = pos 9 }
 unfolding everything
 taken-again = refl
@@ -334,7 +334,7 @@ roomy-slots = refl
 
 -- a stray slot; a deleted file of two slots with a wrong sum; an unused slot with a wrong sum; a deleted directory of two slots with a right one, the second
 -- of which could be no head
-abbrev pub littered : List ℕ
+abbrev littered : List ℕ
 littered =
     splice roomy 640 (
     (0x20 ∷ blank 63)
@@ -408,7 +408,7 @@ behind = run small (create (new_file []) (text "e") (pos 6) ∷ create new_direc
 abbrev placed : List ℕ → List ℕ → List ℕ
 placed s path =
     let t : List ℕ = run s (create (new_file []) path (pos 9) ∷ []) in
-    (find_of t path).answer.found.slot ∷ (find_of t (text "d")).answer.found.slot ∷ (open_of t (blank 5)).answer.index_bytes ∷ []
+    (find_of t path).answer.slot ∷ (find_of t (text "d")).answer.slot ∷ (open_of t (blank 5)).answer.index_bytes ∷ []
 
 -- a file in d makes the index grow; one that is not takes the slot, as does one whose path only begins like that of d
 pub behind-placed :
@@ -442,7 +442,7 @@ between =
     ∷ [])
 
 abbrev new_slot : List ℕ → ℕ
-new_slot path = (find_of (run between (create (new_file []) path (pos 9) ∷ [])) path).answer.found.slot
+new_slot path = (find_of (run between (create (new_file []) path (pos 9) ∷ [])) path).answer.slot
 
 pub between-placed : new_slot (text "a/b/c") ∷ new_slot (text "a/c") ∷ [] ≡ 1 ∷ 2 ∷ []
 unfolding everything

@@ -4,5 +4,4 @@ pub mod Runs
 pub mod Names
 pub mod Comparing
 pub mod Edition110
-pub mod Steps
 pub mod RegionTable

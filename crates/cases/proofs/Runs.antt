@@ -103,7 +103,7 @@ unfolding everything refusals refusal_of
 come_and_go-refusals = refl
 
 pub small-find :
-    (find_of (create_of small (new_file []) (text "a") (pos 6)).image (text "a")).answer.found
+    (find_of (create_of small (new_file []) (text "a") (pos 6)).image (text "a")).answer
     ≡ record { slot = 1; kind = type_file; start = 0; end = 0; length = 0; stamp = pos 6 }
 unfolding everything
 small-find = refl
@@ -303,7 +303,7 @@ abbrev named30 : List ℕ
 named30 = run small (create (new_file []) (replicate 30 0x61) (pos 6) ∷ create new_directory (text "d") (pos 7) ∷ [])
 
 pub named30-slots :
-    (find_of named30 (replicate 30 0x61)).answer.found.slot ∷ (find_of named30 (text "d")).answer.found.slot ∷ []
+    (find_of named30 (replicate 30 0x61)).answer.slot ∷ (find_of named30 (text "d")).answer.slot ∷ []
     ≡ 2 ∷ 1 ∷ []
 unfolding everything
 named30-slots = refl

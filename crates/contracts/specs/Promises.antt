@@ -1,7 +1,7 @@
 -- WHAT EACH EXPORTED CALL PROMISES: a relation between the image s, the arguments, the answer r and the bytes left behind, for every image and
 -- every argument. A call that writes leaves the image t; one that reads leaves s, and its lent output as `after`.
 use Rattle.std.specs.Prelude.{ℕ, ◌≡◌, List, [], ℤ}
-use Rattle.rules.specs.Outcome.{Outcome, VolumeNumbers, FoundNumbers, ListedNumbers}
+use Rattle.rules.specs.Outcome.{Outcome, VolumeNumbers, EntryNumbers, ListedNumbers}
 use Rattle.rules.specs.Reading.{open_of, find_of, list_of, read_of}
 use Rattle.rules.specs.Records.{RecordsNumbers, list_all_of}
 use Rattle.rules.specs.Writing.{Written, New, new_file, new_directory, format_of, create_of, delete_of, delete_keep_of, restore_of, reclaim_of}
@@ -32,13 +32,10 @@ volume_answer r = record {
 abbrev pub volume_view : List ℕ → List ℕ → Volume → Outcome VolumeNumbers
 volume_view s after r = record { refusal = r.refusal; answer = volume_answer r; image = s; output = after }
 
-abbrev pub entry_answer : Entry → FoundNumbers
-entry_answer r = record {
-  found = record { slot = r.slot; kind = r.kind; start = r.start; end = r.end; length = r.length; stamp = r.stamp };
-  steps = r.steps;
-}
+abbrev pub entry_answer : Entry → EntryNumbers
+entry_answer r = record { slot = r.slot; kind = r.kind; start = r.start; end = r.end; length = r.length; stamp = r.stamp }
 
-abbrev pub entry_view : List ℕ → Entry → Outcome FoundNumbers
+abbrev pub entry_view : List ℕ → Entry → Outcome EntryNumbers
 entry_view s r = record { refusal = r.refusal; answer = entry_answer r; image = s; output = [] }
 
 abbrev pub listed_answer : Listed → ListedNumbers
@@ -65,7 +62,7 @@ written_as r t = record { refusal = r; answer = tt; image = t; output = [] }
 
 -- ---- sfs_api: the number of the interface, raised whenever a struct, an argument or what a call does changes
 abbrev pub interface : ℕ
-interface = 3
+interface = 2
 
 abbrev pub TellsApi : ℕ → Type 0
 TellsApi r = r ≡ interface
@@ -78,7 +75,7 @@ Formats s version bytes_per_block reserved name stamp r t = written_as r t ≡ f
 abbrev pub OpensVolume : List ℕ → List ℕ → Volume → List ℕ → Type 0
 OpensVolume s out r after = volume_view s after r ≡ open_of s out
 
--- ---- sfs_find: the numbers of the path's live entry, and how far the search for it went
+-- ---- sfs_find: the numbers of the path's live entry
 abbrev pub Finds : List ℕ → List ℕ → Entry → Type 0
 Finds s path r = entry_view s r ≡ find_of s path
 

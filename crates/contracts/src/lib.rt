@@ -26,7 +26,6 @@ pub struct Entry {
     pub end: u64,
     pub length: u64,
     pub stamp: i64,
-    pub steps: u64,
 }
 
 #[repr(C)]

@@ -12,9 +12,9 @@ use Rattle.rules.specs.Paths.{next_live}
 use Rattle.rules.specs.Index.{Entry}
 use Rattle.rules.specs.Refusals.{Verdict, refused, accepted, need, need_found, and_then, Volume, entries}
 use Rattle.rules.specs.Outcome.{Outcome, done, conclude, on_volume}
-use Rattle.rules.specs.Reading.{open_of, search_of, with_steps, find_of, read_of, listed, list_of}
+use Rattle.rules.specs.Reading.{open_of, find_of, read_of, listed, list_of}
 use Rattle.rules.specs.Records.{records_outcome, list_all_of}
-use Rattle.rules.specs.Writing.{New, format_of, create_of, Writes, on_deletable, wiped, delete_of, deleted, delete_keep_of, restore_of, reclaim_of}
+use Rattle.rules.specs.Writing.{New, format_of, create_of, on_deletable, wiped, delete_of, deleted, delete_keep_of, restore_of, reclaim_of}
 
 -- what holds of the outcome, where there is one
 Each : {A : Type 0} → (A → Type 0) → Verdict A → Type 0
@@ -56,12 +56,10 @@ open-image s out =
     same-image _ s out _ (each-then (Same s) _ _ (λ v. each-need (Same s) _ _ _ (each-accepted (Same s) _ refl)))
 
 pub find-image : (s path : List ℕ) → (find_of s path).image ≡ s
-unfolding find_of on_volume search_of with_steps done
+unfolding find_of on_volume done
 find-image s path =
     same-image _ s _ _
-    (each-then (Same s) _ _ (λ v.
-    each-need (Same s) _ _ _
-    (each-accepted (Same s) _ (same-image _ s _ _ (each-found (Same s) _ _ _ (λ e. each-accepted (Same s) _ refl))))))
+    (each-then (Same s) _ _ (λ v. each-need (Same s) _ _ _ (each-found (Same s) _ _ _ (λ e. each-accepted (Same s) _ refl))))
 
 pub read-image : (s path out : List ℕ) → (read_of s path out).image ≡ s
 unfolding read_of on_volume done
@@ -119,7 +117,7 @@ create-refused s new path stamp =
     (each-found Zero _ _ _ (λ p. each-found Zero _ _ _ (λ start. each-accepted Zero _ refl))))))))
 
 -- both deletes, whatever they write
-deletable-image : (s path : List ℕ) (write : Writes)
+deletable-image : (s path : List ℕ) (write : List ℕ → Volume → Entry → List ℕ)
     → eqb (on_deletable s path write).refusal 0 ≡ false → (on_deletable s path write).image ≡ s
 unfolding on_deletable on_volume done
 deletable-image s path write =

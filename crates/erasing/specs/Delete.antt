@@ -18,7 +18,7 @@ use Rattle.rules.specs.Regions.{blocks_of}
 use Rattle.rules.specs.Paths.{lookup}
 use Rattle.rules.specs.Refusals.{Volume, entries}
 use Rattle.rules.specs.Refusals.Laws.{Opens, judge-opens}
-use Rattle.rules.specs.Writing.{Writes, on_deletable, region_cleared, trimmed_to, without, wiped}
+use Rattle.rules.specs.Writing.{on_deletable, region_cleared, trimmed_to, without, wiped}
 use Rattle.rules.specs.Writing.Laws.{refused_write, wrote}
 use Rattle.laws.proofs.Index.Slots.{slot-at}
 use Rattle.laws.proofs.Entries.Regions.{Regionless, Within, region-bytes}
@@ -47,6 +47,9 @@ pub record RegionHeld (n : ℕ) (g : Held) (h : Head) : Type 0 where
   pub inside : (s : List ℕ) → (head_view s h).end * block_length (geometry_view g) ≤ n
 
 -- ---- what was planned, whatever the call writes
+abbrev pub Writes : Type 0
+Writes = List ℕ → Volume → Entry → List ℕ
+
 pub record DeleteFound (s path : List ℕ) (g : Held) (h : Head) : Type 0 where
   pub opened : Opened s g
   pub room : HasRoom s g h

@@ -36,7 +36,7 @@ use units::Offset;
 
 // What a delete comes to before it writes: a refusal, or, in a volume of this geometry, the path's live entry.
 #[derive(Drop)]
-enum Deletable {
+pub enum Deletable {
     Refused(u8),
     Entry(Geometry, Head),
 }

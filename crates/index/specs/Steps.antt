@@ -251,12 +251,9 @@ step-read s c p d r h of view place =
       ends = r.ends;
     }
 
-pub items-end : (s : List ℕ) (c : Cursor) → c.left ≡ 0 → items_from s c ≡ []
-items-end s c z = rw (z, walk_none (edition_view c.edition) c.slot.0 (drop c.at.0 s))
-
 pub no-more : (s : List ℕ) (c : Cursor) → c.left ≡ 0 → entries_from s c ≡ []
 unfolding entries_of
-no-more s c z = ap entries_of (items-end s c z)
+no-more s c z = rw (z, walk_none (edition_view c.edition) c.slot.0 (drop c.at.0 s))
 
 -- an entry that is reached from further on is reached from the start
 pub reached-before : (s : List ℕ) (b c : Cursor) (p : Spot) (d : Cursor) → c.edition ≡ b.edition → entries_from s c ≡ entries_from s b → b.slot.0 ≤ c.slot.0 → c.slot.0 + c.left ≡ b.slot.0 + b.left

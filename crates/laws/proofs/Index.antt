@@ -11,4 +11,3 @@ pub mod Shift
 pub mod Runs
 pub mod Retyped
 pub mod Writes
-pub mod Steps

@@ -1,5 +1,5 @@
 -- The code's answers in the rules' words.
-use Rattle.std.specs.Prelude.{ℕ, ◌+◌, ◌-◌, ◌<◌, ◌≡◌, refl, Bool, true, false, ◌&&◌, ◌||◌, List, [], ◌∷◌, ◌⊎◌, drop, eqb}
+use Rattle.std.specs.Prelude.{ℕ, ◌<◌, ◌≡◌, refl, Bool, true, false, ◌&&◌, ◌||◌, List, [], ◌∷◌, ◌⊎◌, drop, eqb}
 use Rattle.std.proofs.Math.Path.{sym, ap}
 use Rattle.std.proofs.Common.{◌∙◌, arith}
 use Rattle.std.proofs.Math.Option.{Option, none, some}
@@ -9,8 +9,6 @@ use Rattle.rules.specs.Editions.{Edition}
 use Rattle.rules.specs.SuperBlock.{Geometry}
 use Rattle.rules.specs.Names.{slash, is_below}
 use Rattle.rules.specs.Index.{Entry, run_type, stale_type, name_field, slot_at}
-use Rattle.rules.specs.Index.Items.{entry_type}
-use Rattle.rules.specs.Reading.{steps_to}
 use Rattle.rules.specs.Comparing.{looked, search_looked}
 use Rattle.editions.specs.View.{edition_view}
 use Rattle.editions.specs.declared.Edition.{Edition as Held}
@@ -20,12 +18,11 @@ use Rattle.slots.specs.View.{head_view, spot_view, HeadIn}
 use Rattle.paths.specs.declared.Search.{Search}
 use Rattle.paths.specs.declared.Search.TheVariants.{Nothing, Entry as found}
 use Rattle.index.specs.declared.Cursor.{Cursor}
-use Rattle.index.specs.View.{Behind, items_from}
+use Rattle.index.specs.View.{Behind}
 use Rattle.index.specs.Steps.{Walks, entries_from}
 use Rattle.paths.specs.declared.Hit.{Hit}
 use Rattle.paths.specs.declared.Hit.TheVariants.{Nothing as no_hit, Entry as hit_at}
 use Rattle.paths.specs.declared.Sought.{Sought}
-use Rattle.paths.specs.declared.Tally.{Tally}
 
 -- ---- what is looked for
 unfoldable pub sought_kind : Sought → ℕ → Bool
@@ -63,22 +60,6 @@ spot_looked s e what p = pick (compares what (spot_view s e)) (looked (name_of s
 -- and stands where its slot lies
 abbrev pub LookedFrom : List ℕ → Cursor → (Entry → Bool) → (Entry → Bool) → List ℕ → ℕ → Type 0
 LookedFrom s c sought passing p n = (g : Geometry) → edition_view c.edition ≡ g.edition → c.at.0 ≡ slot_at s g c.slot.0 → n ≡ search_looked s g sought passing p (entries_from s c)
-
--- ---- what a search meets
-abbrev pub nothing_met : Tally
-nothing_met = record { looked = 0; steps = 0 }
-
--- m bytes and k slots more
-abbrev pub Added : Tally → ℕ → ℕ → Tally → Type 0
-Added n m k t = (t.looked ≡ n.looked + m) × (t.steps ≡ n.steps + k)
-
--- the slots that are stepped on from a spot up to the cursor behind what stands there: one of an entry, else all
-unfoldable pub stepped : Spot → Cursor → ℕ
-stepped e d = pick (entry_type (edition_view e.edition) e.kind) 1 (d.slot.0 - e.slot.0)
-
--- a search from a cursor looks at what the rules say, and steps on as many slots
-abbrev pub CountedFrom : List ℕ → Cursor → (Entry → Bool) → (Entry → Bool) → List ℕ → Tally → Type 0
-CountedFrom s c sought passing p n = LookedFrom s c sought passing p n.looked × (n.steps ≡ steps_to passing (items_from s c))
 
 -- ---- what was found
 unfoldable pub search_view : List ℕ → Search → Option Entry

@@ -1,7 +1,6 @@
-// Paths of entries, compared with a path and looked up, by walks from slot to slot. What is looked at of the names is counted, and so are the slots that a
-// search steps on.
+// Paths of entries, compared with a path and looked up, by walks from slot to slot. What is looked at of the names is counted.
 
-ghost use Rattle.std.specs.Prelude.{◌≡◌, true, List, ℕ, ◌+◌, ◌^◌, ◌≤◌, ◌<◌};
+ghost use Rattle.std.specs.Prelude.{◌≡◌, true, List, ℕ};
 ghost use Rattle.rules.specs.Lists.{any, first};
 ghost use Rattle.rules.specs.Index.{run_type};
 ghost use Rattle.rules.specs.Paths.{is_live, live_at, deleted_at, lookup, live_from, directory_live, any_below};
@@ -11,8 +10,8 @@ ghost use Rattle.editions.specs.View.{edition_view};
 ghost use Rattle.slots.specs.View.{spot_view, SpotIn};
 ghost use Rattle.index.specs.View.{SumsFrom};
 ghost use Rattle.index.specs.Steps.{Walks, entries_from};
-ghost use Rattle.paths.specs.Searching.{FewMet, Goes, Ends};
-ghost use Rattle.paths.specs.View.{Hits, HitOf, Searched, FoundOf, is_found, passes, sought_kind, compares, OfRuns, name_of, spot_looked, nothing_met, stepped, Added, CountedFrom};
+ghost use Rattle.paths.specs.Searching.{FewLooked, Goes, Ends};
+ghost use Rattle.paths.specs.View.{Hits, HitOf, Searched, FoundOf, is_found, passes, sought_kind, compares, OfRuns, name_of, spot_looked, LookedFrom};
 
 use comparing::{Compared, apart, compare};
 use index::{Cursor, Stop, further, next_spot, single};
@@ -99,101 +98,64 @@ fn passes(img: &[u8], e: Spot, what: Sought, path: &[u8]) -> Compared
     compare_name(img, e, path, what.end)
 }
 
-// ---- what a search meets
-
-// How many bytes of names it looked at, and how many slots it stepped on: the first of an entry, and every unused one.
-#[derive(Drop)]
-pub struct Tally {
-    pub looked: usize,
-    pub steps: u64,
-}
-
-const NOTHING_MET: Tally = Tally {
-    looked: 0,
-    steps: 0,
-};
-
-impl Tally {
-    fn plus(self, looked: usize, steps: u64) -> Tally
-        requires { (self.looked + looked < 2 ^ 64) × (self.steps + steps < 2 ^ 64) }
-        ensures { Added self looked steps result }
-    {
-        Tally {
-            looked: self.looked + looked,
-            steps: self.steps + steps,
-        }
-    }
-}
-
-// The slots that are stepped on from here up to `rest`, behind what stands here: of an entry the first alone, the others continue its name.
-fn stepped(here: Spot, rest: Cursor) -> u64
-    requires { here.slot.0 ≤ rest.slot.0 }
-    ensures { result ≡ stepped here rest }
-{
-    let all = here.slot.slots_to(rest.slot);
-    if slots::is_entry(here.edition, here.kind) {
-        return 1;
-    }
-    all
-}
-
 // ---- searches
 
-// How far a search came, and what it met: to a cursor, with nothing that passes before it, or to an entry that passes, with the cursor behind it.
+// How far a search came, and how many bytes of names it looked at: to a cursor, with nothing that passes before it, or to an entry that passes, with
+// the cursor behind it.
 #[derive(Drop)]
 enum Way {
-    On(Cursor, Tally),
-    At(Spot, Cursor, Tally),
+    On(Cursor, usize),
+    At(Spot, Cursor, usize),
 }
 
 // A search taken on over the slots that stand by themselves, as most do, up to one with more slots behind it. The loop does not wait for a count to
 // know where the next slot is.
-fn pass_singles(img: &[u8], from: Cursor, what: Sought, path: &[u8], prior: Tally) -> Way
-    requires { Walks img.now from × OfRuns (edition_view from.edition) what × FewMet from prior }
-    ensures { Goes img.now what path.now from prior result }
+fn pass_singles(img: &[u8], from: Cursor, what: Sought, path: &[u8], looked: usize) -> Way
+    requires { Walks img.now from × OfRuns (edition_view from.edition) what × FewLooked from looked }
+    ensures { Goes img.now what path.now from looked result }
 {
     let mut c = from;
-    let mut met = prior;
+    let mut n = looked;
     while 0 < c.left {
         let at = c.at;
         if !slots::is_single(img, c.edition, at) {
-            return Way::On(c, met);
+            return Way::On(c, n);
         }
         let next = single(img, c);
         let here = next.here;
         let rest = next.rest;
         let tried = passes(img, here, what, path);
-        met = met.plus(tried.looked, 1);
+        n += tried.looked;
         if tried.same {
-            return Way::At(here, rest, met);
+            return Way::At(here, rest, n);
         }
         c = rest;
     }
-    Way::On(c, met)
+    Way::On(c, n)
 }
 
 // The same over all slots: where it comes to a cursor, that is the end.
 fn pass_over(img: &[u8], sums: &[u8], from: Cursor, what: Sought, path: &[u8]) -> Way
     requires { Walks img.now from × OfRuns (edition_view from.edition) what × SumsFrom img.now sums.now from }
-    ensures goes { Goes img.now what path.now from nothing_met result }
+    ensures goes { Goes img.now what path.now from 0 result }
     ensures ended { Ends result }
 {
     let mut c = from;
-    let mut met = NOTHING_MET;
+    let mut n: usize = 0;
     loop {
-        match pass_singles(img, c, what, path, met) {
-            Way::At(e, rest, all) => return Way::At(e, rest, all),
-            Way::On(at, so_far) => {
+        match pass_singles(img, c, what, path, n) {
+            Way::At(e, rest, looked) => return Way::At(e, rest, looked),
+            Way::On(at, looked) => {
                 if at.left == 0 {
-                    return Way::On(at, so_far);
+                    return Way::On(at, looked);
                 }
                 let next = further(img, sums, at);
                 let here = next.here;
                 let rest = next.rest;
                 let tried = passes(img, here, what, path);
-                met = so_far.plus(tried.looked, stepped(here, rest));
+                n = looked + tried.looked;
                 if tried.same {
-                    return Way::At(here, rest, met);
+                    return Way::At(here, rest, n);
                 }
                 c = rest;
             }
@@ -201,59 +163,58 @@ fn pass_over(img: &[u8], sums: &[u8], from: Cursor, what: Sought, path: &[u8]) -
     }
 }
 
-// What a search comes to, and what it met on its way.
+// What a search comes to, and how many bytes of the names on its way it looked at.
 #[derive(Drop)]
 struct Met {
     hit: Hit,
-    tally: Tally,
+    looked: usize,
 }
 
 #[derive(Drop)]
 pub struct Found {
     pub entry: Search,
-    pub tally: Tally,
+    pub looked: usize,
 }
 
 // The first entry that passes, and where the walk goes on behind it. Only its numbers are read.
 fn next_hit(img: &[u8], sums: &[u8], from: Cursor, what: Sought, path: &[u8]) -> Met
     requires { Walks img.now from × OfRuns (edition_view from.edition) what × SumsFrom img.now sums.now from }
     ensures hits { Hits img.now (passes what path.now) (entries_from img.now from) result.hit }
-    ensures counted { CountedFrom img.now from (compares what) (passes what path.now) path.now result.tally }
+    ensures counted { LookedFrom img.now from (compares what) (passes what path.now) path.now result.looked }
     ensures edition { HitOf from result.hit }
 {
     match pass_over(img, sums, from, what, path) {
-        Way::On(_, tally) => Met {
+        Way::On(_, looked) => Met {
             hit: Hit::Nothing,
-            tally,
+            looked,
         },
-        Way::At(e, rest, tally) => {
+        Way::At(e, rest, looked) => {
             let h = slots::head_at(img, e.edition, e.at, e.slot);
             Met {
                 hit: Hit::Entry(h, rest),
-                tally,
+                looked,
             }
         }
     }
 }
 
-// The first entry that passes, and what was met.
+// The first entry that passes, and how many bytes of names were looked at.
 fn seek(img: &[u8], sums: &[u8], from: Cursor, what: Sought, path: &[u8]) -> Found
     requires { Walks img.now from × OfRuns (edition_view from.edition) what × SumsFrom img.now sums.now from }
     ensures searched { Searched img.now (first (passes what path.now) (entries_from img.now from)) result.entry }
-    ensures counted { CountedFrom img.now from (compares what) (passes what path.now) path.now result.tally }
+    ensures counted { LookedFrom img.now from (compares what) (passes what path.now) path.now result.looked }
     ensures edition { FoundOf from.edition result.entry }
 {
     let met = next_hit(img, sums, from, what, path);
     let hit = met.hit;
-    let tally = met.tally;
     match hit {
         Hit::Nothing => Found {
             entry: Search::Nothing,
-            tally,
+            looked: met.looked,
         },
         Hit::Entry(h, _) => Found {
             entry: Search::Entry(h),
-            tally,
+            looked: met.looked,
         },
     }
 }
@@ -276,11 +237,11 @@ fn any_passes(img: &[u8], sums: &[u8], from: Cursor, what: Sought, path: &[u8]) 
     is_found(found)
 }
 
-// The live entry of the path, and what was met.
+// The live entry of the path, and how many bytes of names were looked at.
 pub fn find(img: &[u8], sums: &[u8], from: Cursor, path: &[u8]) -> Found
     requires { Walks img.now from × SumsFrom img.now sums.now from }
     ensures searched { Searched img.now (lookup path.now (entries_from img.now from)) result.entry }
-    ensures counted { CountedFrom img.now from is_live (live_at path.now) path.now result.tally }
+    ensures counted { LookedFrom img.now from is_live (live_at path.now) path.now result.looked }
     ensures edition { FoundOf from.edition result.entry }
 {
     seek(img, sums, from, LIVE, path)

@@ -1,12 +1,12 @@
 // The reading calls: open, find, list and read. Each takes any image and any arguments.
 
 ghost use Rattle.std.specs.Prelude.{◌≡◌, true, List, [], ℕ, ◌≤◌, length};
-ghost use Rattle.rules.specs.Paths.{live_at, lookup};
+ghost use Rattle.rules.specs.Paths.{lookup};
 ghost use Rattle.rules.specs.Comparing.{find_looked};
 ghost use Rattle.rules.specs.Refusals.{entries};
 ghost use Rattle.rules.specs.Outcome.{no_volume, no_entry, none_listed, numbers_of};
 ghost use Rattle.rules.specs.Outcome.Laws.{denied};
-ghost use Rattle.rules.specs.Reading.{volume_numbers, steps_to};
+ghost use Rattle.rules.specs.Reading.{volume_numbers};
 ghost use Rattle.rules.specs.Index.{volume_name, run_type};
 ghost use Rattle.rules.specs.Reading.Laws.{list_entry};
 ghost use Rattle.contracts.specs.Promises.{OpensVolume, Finds, Lists, Reads, volume_view, volume_answer, entry_view, entry_answer, content_view, listed_view, listed_answer};
@@ -89,12 +89,11 @@ pub fn open(img: &[u8], out: &mut [u8]) -> Volume
 
 // ---- find
 
-// The live entry of the path, how many bytes of names the search for it looked at, and how many slots it stepped on.
+// The live entry of the path, and how many bytes of names the search for it looked at.
 fn search(img: &[u8], g: Geometry, path: &[u8]) -> Found
     requires { Opened img.now g }
     ensures searched { Searched img.now (lookup path.now (entries (volume_of img.now (geometry_view g)))) result.entry }
-    ensures counted { result.tally.looked ≡ find_looked img.now (volume_of img.now (geometry_view g)) path.now }
-    ensures stepped { result.tally.steps ≡ steps_to (live_at path.now) (volume_of img.now (geometry_view g)).items }
+    ensures counted { result.looked ≡ find_looked img.now (volume_of img.now (geometry_view g)) path.now }
     ensures edition { FoundOf g.edition result.entry }
 {
     let mut sums = [0u8; sums::ROOM];
@@ -111,9 +110,8 @@ fn look_up(img: &[u8], g: Geometry, path: &[u8]) -> Search
     search(img, g, path).entry
 }
 
-// A refusal, and how far a search went that found nothing; 0 where there was none.
-fn no_entry(n: u32, steps: u64) -> Entry
-    ensures { (s : List ℕ) → entry_view s result ≡ denied (record { found = no_entry; steps = steps }) s [] n }
+fn no_entry(n: u32) -> Entry
+    ensures { (s : List ℕ) → entry_view s result ≡ denied no_entry s [] n }
 {
     Entry {
         refusal: n,
@@ -123,13 +121,12 @@ fn no_entry(n: u32, steps: u64) -> Entry
         end: 0,
         length: 0,
         stamp: 0,
-        steps,
     }
 }
 
 // The numbers of an entry that was found, its end as it is stored.
-fn entry_numbers(h: Head, steps: u64) -> Entry
-    ensures { (result.refusal ≡ 0) × ((s : List ℕ) → entry_answer result ≡ record { found = numbers_of (edition_view h.edition) (head_view s h); steps = steps }) }
+fn entry_numbers(h: Head) -> Entry
+    ensures { (result.refusal ≡ 0) × ((s : List ℕ) → entry_answer result ≡ numbers_of (edition_view h.edition) (head_view s h)) }
 {
     Entry {
         refusal: 0,
@@ -139,7 +136,6 @@ fn entry_numbers(h: Head, steps: u64) -> Entry
         end: h.end.number(),
         length: h.length,
         stamp: stamps::from_bits(h.stamp),
-        steps,
     }
 }
 
@@ -148,14 +144,11 @@ fn find_entry(img: &[u8], g: Geometry, path: &[u8]) -> Entry
     ensures { Finds img.now path.now result }
 {
     if !names::path_good(path) {
-        return no_entry(10, 0);
+        return no_entry(10);
     }
-    let found = search(img, g, path);
-    let entry = found.entry;
-    let tally = found.tally;
-    match entry {
-        Search::Nothing => no_entry(11, tally.steps),
-        Search::Entry(h) => entry_numbers(h, tally.steps),
+    match look_up(img, g, path) {
+        Search::Nothing => no_entry(11),
+        Search::Entry(h) => entry_numbers(h),
     }
 }
 
@@ -163,7 +156,7 @@ pub fn find(img: &[u8], path: &[u8]) -> Entry
     ensures { Finds img.now path.now result }
 {
     match judging::judge(img) {
-        Judged::Refused(n) => no_entry(n as u32, 0),
+        Judged::Refused(n) => no_entry(n as u32),
         Judged::Good(g) => find_entry(img, g, path),
     }
 }
@@ -241,7 +234,7 @@ fn none_listed(n: u32) -> Listed
 fn listed_numbers(h: Head, n: usize) -> Listed
     ensures { (result.refusal ≡ 0) × ((s : List ℕ) → listed_answer result ≡ record { found = numbers_of (edition_view h.edition) (head_view s h); path_length = n }) }
 {
-    let e = entry_numbers(h, 0);
+    let e = entry_numbers(h);
     Listed {
         refusal: e.refusal,
         kind: e.kind,

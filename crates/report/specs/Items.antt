@@ -5,6 +5,7 @@ use Rattle.rules.specs.Lists.{pick, All}
 use Rattle.rules.specs.Fields.{byte_at}
 use Rattle.rules.specs.Editions.{Edition}
 use Rattle.rules.specs.Index.{Entry, Item, unused, stale, entry, item_at, stale_type, stale_slots}
+use Rattle.rules.specs.Index.Walk.{walk_none}
 use Rattle.rules.specs.Index.Items.{head_of, entry_type, step_slots, step-entry, Stands, sound-entry, gap_at, gap_slots, entries-entry, type-drop}
 use Rattle.rules.specs.Regions.{blocks_of}
 use Rattle.rules.specs.Report.{Table, entry_kind, item_kind, slots_in, blocks_in, bytes_in, sums_of, added}
@@ -36,6 +37,9 @@ onto-small s c p d o h = by (entry_type (edition_view p.edition) p.kind) refl
     by : (t : Bool) → entry_type (edition_view p.edition) p.kind ≡ t → All Small (entries_from s d)
     by true t = (rw (o.entry t).entries at h).1
     by false t = rw (o.unused t) h
+
+pub items-end : (s : List ℕ) (c : Cursor) → c.left ≡ 0 → items_from s c ≡ []
+items-end s c z = rw (z, walk_none (edition_view c.edition) c.slot.0 (drop c.at.0 s))
 
 -- ---- a slot with no entry, or several that are left over
 gap_row : (ed : Edition) (left k : ℕ) (a : List ℕ) → (item_kind (gap_at ed left k a) ≡ 5) × (item_row (gap_at ed left k a) ≡ gap_slots ed left a ∷ 0 ∷ 0 ∷ [])

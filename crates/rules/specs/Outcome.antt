@@ -51,7 +51,7 @@ no_volume = record {
   name_length = 0;
 }
 
--- ---- the numbers of an entry; find has the steps of its search besides, list the path's byte count
+-- ---- find's numbers; list has the path's byte count besides
 pub record EntryNumbers : Type 0 where
   pub slot : ℕ
   pub kind : ℕ
@@ -66,13 +66,6 @@ no_entry = record { slot = 0; kind = 0; start = 0; end = 0; length = 0; stamp = 
 -- the end is given as the edition stores it
 unfoldable pub numbers_of : Edition → Entry → EntryNumbers
 numbers_of ed e = record { slot = e.slot; kind = e.kind; start = e.start; end = stored_end ed e.end; length = e.length; stamp = e.stamp }
-
-pub record FoundNumbers : Type 0 where
-  pub found : EntryNumbers
-  pub steps : ℕ  -- how many slots the search stepped on
-
-unfoldable pub none_found : FoundNumbers
-none_found = record { found = no_entry; steps = 0 }
 
 pub record ListedNumbers : Type 0 where
   pub found : EntryNumbers

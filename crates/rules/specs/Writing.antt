@@ -227,12 +227,8 @@ abbrev pub trimmed_to : List Entry → Geometry → ℤ → Geometry
 trimmed_to es g stamp = restamp g (trim_data g (least_end es)) stamp
 
 -- ---- delete, two calls as K7 has them, which refuse alike
--- what a delete makes of the tidied image, by the volume and the path's live entry
-abbrev pub Writes : Type 0
-Writes = List ℕ → Volume → Entry → List ℕ
-
--- 10, 11 and 14, and then what the call writes
-unfoldable pub on_deletable : List ℕ → List ℕ → Writes → Written
+-- 10, 11 and 14, and then what the call writes: of the tidied image, the volume and the path's live entry
+unfoldable pub on_deletable : List ℕ → List ℕ → (List ℕ → Volume → Entry → List ℕ) → Written
 on_deletable s path write =
     on_writable s (λ t v.
     need (path_good path) 10
@@ -245,7 +241,7 @@ abbrev pub without : List ℕ → List Entry → List Entry
 without path es = only (λ e. not (live_at path e)) es
 
 -- ---- the plain one wipes: zeros in the whole region, the data area trimmed to the regions left, unused slots for the run
-unfoldable pub wiped : List ℕ → ℤ → Writes
+unfoldable pub wiped : List ℕ → ℤ → List ℕ → Volume → Entry → List ℕ
 wiped path stamp s v e =
     let g : Geometry = trimmed_to (without path (entries v)) v.geometry stamp in
     run_cleared (put_sizes (region_cleared s v.geometry e) g) g e
@@ -257,7 +253,7 @@ delete_of s path stamp = on_deletable s path (wiped path stamp)
 unfoldable pub deleted_kind : ℕ → ℕ
 deleted_kind t = pick (file_type t) type_deleted_file type_deleted_directory
 
-unfoldable pub deleted : ℤ → Writes
+unfoldable pub deleted : ℤ → List ℕ → Volume → Entry → List ℕ
 deleted stamp s v e =
     pick (keeps_deleted v.geometry.edition)
     (retyped v.geometry.edition s (slot_at s v.geometry e.slot) (deleted_kind e.kind) stamp)

@@ -6,7 +6,7 @@ ghost use Rattle.contracts.specs.Promises.{TellsApi, Formats, OpensVolume, Finds
 use contracts::{Content, Entry, Listed, Records, Volume};
 
 // The number of the interface, raised whenever a struct, an argument or what a call does changes.
-const API: u32 = 3;
+const API: u32 = 2;
 
 #[unsafe(no_mangle)]
 pub extern "C" fn sfs_api() -> u32

@@ -2,7 +2,7 @@
 use Prim.Native.Nat.{ℕ}
 use mathlib.Core.Path.{◌≡◌, sym, ap, ap₂, ◌∙◌}
 use mathlib.Core.List.{List}
-use Rattle.rules.specs.Outcome.{Outcome, FoundNumbers, ListedNumbers}
+use Rattle.rules.specs.Outcome.{Outcome, EntryNumbers, ListedNumbers}
 use Rattle.rules.specs.History.{Agree, SameAnswer}
 use Rattle.rules.specs.Records.{RecordsNumbers}
 use Rattle.contracts.specs.Promises.{Finds, Lists, ListsAll, Reads}
@@ -13,17 +13,8 @@ use Rattle.contracts.specs.declared.Records.{Records}
 use Rattle.two_images.proofs.TwoImages.{two-images, all_alike}
 
 -- ---- an answer is its refusal and its numbers
-abbrev entry_of : ℕ → FoundNumbers → Entry
-entry_of n a = record {
-  refusal = n;
-  kind = a.found.kind;
-  slot = a.found.slot;
-  start = a.found.start;
-  end = a.found.end;
-  length = a.found.length;
-  stamp = a.found.stamp;
-  steps = a.steps;
-}
+abbrev entry_of : ℕ → EntryNumbers → Entry
+entry_of n a = record { refusal = n; kind = a.kind; slot = a.slot; start = a.start; end = a.end; length = a.length; stamp = a.stamp }
 
 abbrev listed_of : ℕ → ListedNumbers → Listed
 listed_of n a = record {

@@ -21,8 +21,8 @@ use Rattle.rules.specs.Regions.{blocks_of}
 use Rattle.rules.specs.Paths.{is_live, live_at, lookup, next_live}
 use Rattle.rules.specs.Refusals.{Verdict, accepted, need, need_found, and_then, Volume, entries, judge}
 use Rattle.rules.specs.Refusals.Laws.{judge-opens, edition-same}
-use Rattle.rules.specs.Outcome.{Outcome, done, conclude, on_volume, EntryNumbers, no_entry, numbers_of, none_found, none_listed}
-use Rattle.rules.specs.Reading.{steps_to, search_of, with_steps, find_of, read_of, list_of, listed, file_bytes}
+use Rattle.rules.specs.Outcome.{Outcome, done, conclude, on_volume, no_entry, numbers_of, none_listed}
+use Rattle.rules.specs.Reading.{find_of, read_of, list_of, listed, file_bytes}
 use Rattle.rules.specs.Records.{number_bytes, record_of, record_step, records_from, no_records, records_outcome, list_all_of}
 use Rattle.rules.specs.History.{Agree, SameAnswer, TwoImages}
 use Rattle.laws.proofs.Lists.Parts.{some_same}
@@ -56,21 +56,15 @@ module _ {A : Type 0} (zeros : A) (s t out : List ℕ) where
   unfolding on_volume and_then
   alike-volume v f g p q h = rw (p, q) h
 
--- and with as many steps beside them
-alike-steps : (s t : List ℕ) (n : ℕ) (o p : Outcome EntryNumbers) → SameAnswer o p → Alike none_found s t [] (accepted (with_steps n o)) (accepted (with_steps n p))
-unfolding conclude with_steps
-alike-steps s t n o p h = record { refusals = h.refusals; answers = ap (λ (a : EntryNumbers). record { found = a; steps = n }) h.answers; outputs = h.outputs }
-
 -- ---- the calls on two images that open as one volume
 module _ (s t : List ℕ) (v : Volume) (first : judge s ≡ accepted v) (second : judge t ≡ accepted v) where
   same-find : (path : List ℕ) → SameAnswer (find_of s path) (find_of t path)
-  unfolding find_of search_of
+  unfolding find_of
   same-find path =
-      alike-volume none_found s t [] v _ _ first second
-      (alike-need none_found s t [] (path_good path) 10 _ _ (λ _.
-      alike-steps s t (steps_to (live_at path) v.items) _ _
-      (alike-found no_entry s t [] (lookup path (entries v)) 11 _ _ (λ e _.
-      alike-done no_entry s t [] (numbers_of v.geometry.edition e) [] [] refl))))
+      alike-volume no_entry s t [] v _ _ first second
+      (alike-need no_entry s t [] (path_good path) 10 _ _ (λ _.
+      alike-found no_entry s t [] (lookup path (entries v)) 11 _ _ (λ e _.
+      alike-done no_entry s t [] (numbers_of v.geometry.edition e) [] [] refl)))
 
   alike-listed : (ed : Edition) (out : List ℕ) (o : Option Entry) → Alike none_listed s t out (listed ed s out o) (listed ed t out o)
   unfolding listed

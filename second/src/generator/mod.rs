@@ -14,7 +14,6 @@ mod regions;
 mod reports;
 mod restore;
 mod spans;
-mod steps;
 mod sums;
 mod tails;
 mod text;
@@ -47,7 +46,7 @@ const fn family(name: &'static str, weight: u64, newer: u64, scene: Scene) -> Fa
     Family { name, weight, newer, scene }
 }
 
-const FAMILIES: [Family; 15] = [
+const FAMILIES: [Family; 14] = [
     family("history", 40, 35, history::scene),
     family("damage", 20, 35, damage::scene),
     family("built", 20, 35, built::scene),
@@ -63,7 +62,6 @@ const FAMILIES: [Family; 15] = [
     family("report", 10, 50, reports::scene),
     family("regions", 14, 40, regions::scene),
     family("wiping", 28, 45, wiping::scene),
-    family("steps", 16, 50, steps::scene),
 ];
 
 /// In a hundred calls of a scene, how many have report calls behind them; and the longest image that is so counted, as

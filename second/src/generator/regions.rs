@@ -153,7 +153,7 @@ fn erase(w: &mut Writer) {
     look(w);
 }
 
-pub fn put_image(w: &mut Writer, image: &[u8]) {
+fn put_image(w: &mut Writer, image: &[u8]) {
     w.put(format!("image {}", image.len()));
     w.poke_back(image);
 }

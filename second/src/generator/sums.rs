@@ -462,7 +462,7 @@ fn tiled(w: &mut Writer) {
 }
 
 /// A deleted head that claims slots that are still to be laid, or are the identifier's or none.
-pub fn deleted_head(builder: &mut Builder, rng: &mut Xorshift, last: u64) {
+fn deleted_head(builder: &mut Builder, rng: &mut Xorshift, last: u64) {
     let left = (last - builder.slot) as u8;
     let count = rng.pick(&[0, 0, 1, 1, 2, 3, 4, left - 1, left, left.wrapping_add(1), 255]);
     deleted_slot(builder, rng, count);

@@ -1,9 +1,6 @@
 //! Helpers shared by the tests.
 #![allow(dead_code)]
 
-pub mod laying;
-
-use second::script::Session;
 use second::superblock::{self, CHECKSUM, DATA, INDEX};
 use second::Edition;
 use second::{
@@ -63,16 +60,15 @@ pub fn opens(image: &[u8]) -> u8 {
 }
 
 /// The refusal numbers of open, find, list, read, both creates, delete, restore and reclaim, each called on
-/// the image as it is. Asserts that a refusal gives zeros, but for the steps of find's 11, and writes nothing anywhere,
-/// that the two deletes answer alike, and that list_all refuses the images that list refuses.
+/// the image as it is. Asserts that a refusal gives zeros and writes nothing anywhere, that the two deletes
+/// answer alike, and that list_all refuses the images that list refuses.
 pub fn all_calls(image: &[u8], path: &[u8]) -> [u8; 9] {
     let opened = lend(|output| {
         let answer = open(image, output);
         (answer.refusal, answer == Opened { refusal: answer.refusal, ..Opened::default() })
     });
     let found = find(image, path);
-    let steps = if found.refusal == 11 { found.steps } else { 0 };
-    assert!(found.refusal == 0 || found == Found { refusal: found.refusal, steps, ..Found::default() });
+    assert!(found.refusal == 0 || found == Found { refusal: found.refusal, ..Found::default() });
     let listed = lend(|output| {
         let answer = list(image, 0, output);
         (answer.refusal, answer == Listed { refusal: answer.refusal, ..Listed::default() })
@@ -102,21 +98,6 @@ fn lend(call: impl Fn(&mut [u8]) -> (u8, bool)) -> u8 {
     let untouched = output.iter().all(|byte| *byte == 0xEE);
     assert!(refusal == 0 || (zeros && untouched), "refusal {refusal} gave more than its number");
     refusal
-}
-
-/// The bytes that a word of a script stands for.
-pub fn unhex(word: &str) -> Vec<u8> {
-    let digits = if word == "-" { "" } else { word };
-    (0..digits.len()).step_by(2).map(|at| u8::from_str_radix(&digits[at..at + 2], 16).unwrap()).collect()
-}
-
-/// Runs lines and asserts what each of them prints.
-pub fn plays(story: &[(&str, &str)]) {
-    let mut session = Session::without_digests();
-    for (line, text) in story {
-        let printed = session.execute(line).unwrap().unwrap_or_default();
-        assert_eq!(printed, *text, "{line}");
-    }
 }
 
 /// The byte offsets at which two images differ.

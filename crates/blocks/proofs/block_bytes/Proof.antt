@@ -3,7 +3,7 @@ use borrow.Author.Rules.{rules}
 use Rattle.blocks.proofs.block_bytes.Statement.{statement}
 use Rattle.blocks.proofs.block_bytes.Tie as tie
 
-shl-result : tie.Need-overflow-shl-result
+shl-result : tie.Need-overflow_shl-result
 shl-result c = search rules
 
 returns : tie.Need-returns

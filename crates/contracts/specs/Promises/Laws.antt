@@ -5,7 +5,7 @@ use Rattle.std.proofs.lemmas.Bool.{lt-leb}
 use Rattle.rules.specs.Lists.Laws.{and_left, and_right, and_both}
 use Rattle.rules.specs.Fields.{splice}
 use Rattle.rules.specs.Refusals.Laws.{need-true, need-false}
-use Rattle.rules.specs.Outcome.{done, VolumeNumbers, FoundNumbers, ListedNumbers}
+use Rattle.rules.specs.Outcome.{done, VolumeNumbers, EntryNumbers, ListedNumbers}
 use Rattle.rules.specs.Outcome.Laws.{denied, conclude-refused, conclude-accepted}
 use Rattle.rules.specs.Records.{RecordsNumbers}
 use Rattle.rules.specs.Listing.{listing_of, text_of}
@@ -21,7 +21,7 @@ pub volume-outcome : (s out : List ℕ) (r : Volume) (a : VolumeNumbers) → r.r
 unfolding done
 volume-outcome s out r a z e = rw (z, e)
 
-pub entry-outcome : (s : List ℕ) (r : Entry) (a : FoundNumbers) → r.refusal ≡ 0 → entry_answer r ≡ a → entry_view s r ≡ done a s []
+pub entry-outcome : (s : List ℕ) (r : Entry) (a : EntryNumbers) → r.refusal ≡ 0 → entry_answer r ≡ a → entry_view s r ≡ done a s []
 unfolding done
 entry-outcome s r a z e = rw (z, e)
 

@@ -1,12 +1,12 @@
 use native.Mathlib.Omega.{arith}
-use Rattle.paths.specs.View.{nothing_met}
+use Rattle.index.specs.Steps.{no-more}
 use Rattle.paths.specs.Searching.{Strikes, goes_on, goes_at, ends_on, going-first, going_end}
 use borrow.Author.Rules.{rules}
 use Rattle.paths.proofs.next_hit.Statement.{statement}
 use Rattle.paths.proofs.next_hit.Tie as tie
 
 strikes : (c : tie.After-e) → let a = c.before.before.before.before.before.before.args in
-    Strikes a.img.now a.what a.path.now a.from nothing_met c.e.given.0.0 c.e.given.0.1.0 c.e.given.0.1.1.0
+    Strikes a.img.now a.what a.path.now a.from 0 c.e.given.0.0 c.e.given.0.1.0 c.e.given.0.1.1.0
 strikes c = goes_at _ _ _ _ _ _ c.before.before.pass-over.ensures.0 _ _ _ c.e.given.1
 
 head-at-requires : tie.Need-head-at-requires
@@ -17,8 +17,8 @@ returns c =
     let l = c.before in
     let n = l.before.before in
     let x = n.before.before.before in
-    let over = goes_on _ _ _ _ _ _ n.pass-over.ensures.0 _ _ l.tally.given.1 in
-    going_end _ _ _ _ _ _ (over.going _ (going-first _ _ _ _ x.before.requires.0)) (ends_on _ n.pass-over.ensures.1 _ _ l.tally.given.1)
+    let over = goes_on _ _ _ _ _ _ n.pass-over.ensures.0 _ _ l.looked.given.1 in
+    going_end _ _ _ _ _ _ (over.going _ (going-first _ _ _ _ x.before.requires.0)) (no-more x.before.args.img.now l.looked.given.0.0 (ends_on _ n.pass-over.ensures.1 _ _ l.looked.given.1))
 
 returns-2 : tie.Need-returns-2
 returns-2 c =

@@ -2,7 +2,7 @@ use mathlib.Core.Path.{sym, ◌∙◌}
 use native.Mathlib.Omega.{arith}
 use Rattle.editions.specs.View.{edition_view}
 use Rattle.index.specs.View.{sums-behind}
-use Rattle.paths.specs.View.{OfRuns, nothing_met}
+use Rattle.paths.specs.View.{OfRuns}
 use Rattle.paths.specs.Entries.{sought-entry}
 use Rattle.paths.specs.Searching.{Over, Goes, Ends, goes_on, goes_at, over_none, over_runs, over-room, over-next, over-over, strikes, strikes-over}
 use borrow.Author.Rules.{rules}
@@ -16,15 +16,15 @@ abbrev decreases-loop : tie.decreases-loop
 decreases-loop img sums what path c₀ n₀ c n = c.left
 
 loop-holds : tie.Need-loop-init invariant-loop decreases-loop
-loop-holds c = let x = c.before.before.before in let i = x.requires.0.inside in over_none _ _ _ _ _ x.requires.0 (omega (arith, i.fits, i.short), omega (arith, i.fits, i.short))
+loop-holds c = let x = c.before.before.before in let i = x.requires.0.inside in over_none _ _ _ _ _ x.requires.0 (omega (arith, i.fits, i.short))
 
 -- over the slots that stand by themselves, and so far in all
 passed : (c : tie.After-at invariant-loop decreases-loop) → let l = c.before.before.before in let a = l.before.before.before.before.args in
-    Over a.img.now a.what a.path.now l.loop.c l.loop.met c.at.given.0.0 c.at.given.0.1.0
+    Over a.img.now a.what a.path.now l.loop.c l.loop.n c.at.given.0.0 c.at.given.0.1.0
 passed c = goes_on _ _ _ _ _ _ c.before.before.pass-singles.ensures _ _ c.at.given.1
 
 over : (c : tie.After-at invariant-loop decreases-loop) → let a = c.before.before.before.before.before.before.before.args in
-    Over a.img.now a.what a.path.now a.from nothing_met c.at.given.0.0 c.at.given.0.1.0
+    Over a.img.now a.what a.path.now a.from 0 c.at.given.0.0 c.at.given.0.1.0
 over c = over-over _ _ _ _ _ _ _ _ _ c.before.before.before.loop.invariant (passed c)
 
 abbrev came : tie.After-further invariant-loop decreases-loop → tie.After-at invariant-loop decreases-loop
@@ -55,29 +55,24 @@ passes-requires c κs =
     let here = over_runs _ _ _ _ _ (runs f) _ _ (over (came f)) _ _ f.further.ensures in
     (here, λ t. (f.further.ensures.entry (sought-entry _ _ _ here t)).spot)
 
-stepped-requires : tie.Need-stepped-requires invariant-loop decreases-loop
-stepped-requires c κs = let f = c.before.before.before in omega (arith, f.further.ensures.here.1, f.further.ensures.ahead)
-
-plus-requires : tie.Need-plus-requires invariant-loop decreases-loop
-plus-requires c κs =
+add-n : tie.Need-overflow-add-n invariant-loop decreases-loop
+add-n c =
     let q = c.before in
     let f = q.before.before.before in
-    over-room _ _ _ _ _ (runs f) _ _ (over (came f)) _ _ f.further.ensures _ q.passes.ensures.1 _ c.stepped.ensures
+    record { fits = over-room _ _ _ _ _ (runs f) _ _ (over (came f)) _ _ f.further.ensures _ q.passes.ensures.1 }
 
 returns-3 : tie.Need-returns-3 invariant-loop decreases-loop
 unfolding Goes Ends
 returns-3 c =
-    let p = c.before in
-    let q = p.before.before in
+    let q = c.before.before in
     let f = q.before.before.before in
-    (strikes _ _ _ _ _ (runs f) _ _ (over (came f)) _ _ f.further.ensures _ q.passes.ensures.1 _ p.before.stepped.ensures _ p.plus.ensures (sym q.passes.ensures.0 ∙ c.if2.true), tt)
+    (strikes _ _ _ _ _ (runs f) _ _ (over (came f)) _ _ f.further.ensures _ q.passes.ensures.1 (sym q.passes.ensures.0 ∙ c.if2.true), tt)
 
 loop-again : tie.Need-loop-preserved invariant-loop decreases-loop
 loop-again c =
-    let p = c.before in
-    let q = p.before.before in
+    let q = c.before.before in
     let f = q.before.before.before in
-    over-next _ _ _ _ _ (runs f) _ _ (over (came f)) _ _ f.further.ensures _ q.passes.ensures.1 _ p.before.stepped.ensures _ p.plus.ensures (sym q.passes.ensures.0 ∙ c.if2.false)
+    over-next _ _ _ _ _ (runs f) _ _ (over (came f)) _ _ f.further.ensures _ q.passes.ensures.1 (sym q.passes.ensures.0 ∙ c.if2.false)
 
 pub pass-over-spec : {M : Type 1} → statement M
 pass-over-spec =
@@ -93,8 +88,7 @@ pass-over-spec =
     returns-2
     further-requires
     passes-requires
-    stepped-requires
-    plus-requires
+    add-n
     returns-3
-    (λ c. let f = c.before.before.before.before.before.before in omega (arith, f.further.ensures.less, (passed (came f)).onward))
+    (λ c. let f = c.before.before.before.before.before in omega (arith, f.further.ensures.less, (passed (came f)).onward))
     loop-again)

@@ -1,18 +1,18 @@
-use mathlib.Core.Path.{◌≡◌, sym, ◌∙◌}
+use mathlib.Core.Path.{sym, ◌∙◌}
 use native.Mathlib.Omega.{arith}
 use borrow.Author.Tests.{not-false}
 use Rattle.editions.specs.View.{edition_view}
-use Rattle.paths.specs.View.{OfRuns, stepped}
+use Rattle.paths.specs.View.{OfRuns}
 use Rattle.paths.specs.Entries.{sought-entry}
-use Rattle.paths.specs.Searching.{Over, Goes, over_none, over_runs, over-room, over-next, strikes, stepped-single}
+use Rattle.paths.specs.Searching.{Over, Goes, over_none, over_runs, over-room, over-next, strikes}
 use Rattle.paths.proofs.pass_singles.Statement.{statement}
 use Rattle.paths.proofs.pass_singles.Tie as tie
 
 abbrev invariant-loop : tie.invariant-loop
-invariant-loop img what path c₀ n₀ c n = Over img what path c₀ n₀ c n
+invariant-loop img what path looked c₀ n₀ c n = Over img what path c₀ n₀ c n
 
 abbrev decreases-loop : tie.decreases-loop
-decreases-loop img what path c₀ n₀ c n = c.left
+decreases-loop img what path looked c₀ n₀ c n = c.left
 
 abbrev at-loop : tie.After-single invariant-loop decreases-loop → tie.At-loop invariant-loop decreases-loop
 at-loop c = c.before.before.before.before.before.before
@@ -38,29 +38,24 @@ passes-requires c κs =
     let here = over_runs _ _ _ _ _ (runs f) _ _ (at-loop f).loop.invariant _ _ f.single.ensures in
     (here, λ t. (f.single.ensures.entry (sought-entry _ _ _ here t)).spot)
 
--- it takes one slot
-one : (c : tie.After-single invariant-loop decreases-loop) → 1 ≡ stepped c.single.result.here c.single.result.rest
-one c =
-    let n = c.before.before.is-single.ensures (not-false _ c.before.if2.false) (at-loop c).loop.c.left in
-    stepped-single _ _ _ _ c.single.ensures (omega (arith, c.single.ensures.past.slot, n))
-
-plus-requires : tie.Need-plus-requires invariant-loop decreases-loop
-plus-requires c κs =
-    let f = c.before.before.before in
-    over-room _ _ _ _ _ (runs f) _ _ (at-loop f).loop.invariant _ _ f.single.ensures _ c.passes.ensures.1 _ (one f)
+add-n : tie.Need-overflow-add-n invariant-loop decreases-loop
+add-n c =
+    let q = c.before in
+    let f = q.before.before.before in
+    record { fits = over-room _ _ _ _ _ (runs f) _ _ (at-loop f).loop.invariant _ _ f.single.ensures _ q.passes.ensures.1 }
 
 returns-2 : tie.Need-returns-2 invariant-loop decreases-loop
 unfolding Goes
 returns-2 c =
     let q = c.before.before in
     let f = q.before.before.before in
-    strikes _ _ _ _ _ (runs f) _ _ (at-loop f).loop.invariant _ _ f.single.ensures _ q.passes.ensures.1 _ (one f) _ c.before.plus.ensures (sym q.passes.ensures.0 ∙ c.if3.true)
+    strikes _ _ _ _ _ (runs f) _ _ (at-loop f).loop.invariant _ _ f.single.ensures _ q.passes.ensures.1 (sym q.passes.ensures.0 ∙ c.if3.true)
 
 loop-again : tie.Need-loop-preserved invariant-loop decreases-loop
 loop-again c =
     let q = c.before.before in
     let f = q.before.before.before in
-    over-next _ _ _ _ _ (runs f) _ _ (at-loop f).loop.invariant _ _ f.single.ensures _ q.passes.ensures.1 _ (one f) _ c.before.plus.ensures (sym q.passes.ensures.0 ∙ c.if3.false)
+    over-next _ _ _ _ _ (runs f) _ _ (at-loop f).loop.invariant _ _ f.single.ensures _ q.passes.ensures.1 (sym q.passes.ensures.0 ∙ c.if3.false)
 
 returns-3 : tie.Need-returns-3 invariant-loop decreases-loop
 unfolding Goes
@@ -77,7 +72,7 @@ pass-singles-spec =
     returns
     single-requires
     passes-requires
-    plus-requires
+    add-n
     returns-2
     (λ c. c.before.before.before.before.before.single.ensures.less)
     loop-again

@@ -5,12 +5,12 @@ use Rattle.paths.proofs.seek.Tie as tie
 
 returns : tie.Need-returns
 returns c =
-    let n = c.before.before.before.next-hit.ensures in
+    let n = c.before.before.next-hit.ensures in
     (searched-none _ _ (hit-nothing _ _ _ _ n.0 c.enum_told.given.1), (n.1.0, none_of _))
 
 returns-2 : tie.Need-returns-2
 returns-2 c =
-    let n = c.before.before.before.before.next-hit.ensures in
+    let n = c.before.before.before.next-hit.ensures in
     let k = hit-entry _ _ _ _ n.0 _ _ c.before.hit.given.1 in
     (searched-some _ _ _ (hit-first _ _ _ _ _ k) k.head, (n.1.0, some_of _ _ (hit-of _ _ n.1.1 _ _ c.before.hit.given.1).0))
 

@@ -8,8 +8,8 @@ use borrow.Author.Rules.{rules}
 use Rattle.reading.proofs.entry_numbers.Statement.{statement}
 use Rattle.reading.proofs.entry_numbers.Tie as tie
 
-cast-t3 : tie.Need-overflow-cast-t3
-cast-t3 c = search rules
+cast-t2 : tie.Need-overflow-cast-t2
+cast-t2 c = search rules
 
 number-requires : tie.Need-number-requires
 number-requires c κs = search rules
@@ -30,4 +30,4 @@ returns c = let d = c.before in
     (refl, λ s. rw (to_z-of_z w64 f.result (record { sfits = f.type-inv }), f.ensures, end-given s d.before.before.before.before.args.h, d.number3.ensures, d.before.number2.ensures, d.before.before.number.ensures))
 
 pub entry-numbers-spec : {M : Type 1} → statement M
-entry-numbers-spec = tie.close (tie.spec cast-t3 number-requires number-requires-2 number-requires-3 from-bits-requires returns)
+entry-numbers-spec = tie.close (tie.spec cast-t2 number-requires number-requires-2 number-requires-3 from-bits-requires returns)

@@ -1,5 +1,4 @@
 use mathlib.Core.Path.{sym, ◌∙◌}
-use Rattle.rules.specs.Outcome.{none_found}
 use Rattle.rules.specs.Reading.Laws.{find-refused}
 use Rattle.judging.specs.View.{refused_says, good-says}
 use borrow.Author.Rules.{rules}
@@ -25,7 +24,6 @@ find-entry-requires : tie.Need-find-entry-requires
 find-entry-requires c κs = good-says _ _ c.before.before.before.judge.ensures _ c.before.g.given.1
 
 returns : tie.Need-returns
-unfolding none_found
 returns c = c.no-entry.ensures _ ∙ sym (find-refused _ _ (refused_says _ _ c.before.before.before.before.judge.ensures _ c.before.before.n.given.1) _)
 
 returns-2 : tie.Need-returns-2

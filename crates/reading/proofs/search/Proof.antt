@@ -18,13 +18,10 @@ find-requires c κs =
 
 returns : tie.Need-returns
 unfolding find_looked
-returns c =
-    let f = c.before.before.before in
-    let items = f.first_slot.ensures.0 in
-    let e = opened-entries _ _ f.before.before.before.before.requires f.first_slot.result items in
+returns c = let f = c.before.before.before in
+    let e = opened-entries _ _ f.before.before.before.before.requires f.first_slot.result f.first_slot.ensures.0 in
     let own = f.first_slot.ensures.5 in
-    let counted = c.find.ensures.1.0 in
-    (rw e at c.find.ensures.0, (rw e at (counted.0 _ (ap edition_view own) f.first_slot.ensures.2), (rw items at counted.1, rw own at c.find.ensures.1.1)))
+    (rw e at c.find.ensures.0, (rw e at (c.find.ensures.1.0 _ (ap edition_view own) f.first_slot.ensures.2), rw own at c.find.ensures.1.1))
 
 pub search-spec : {M : Type 1} → statement M
 search-spec = tie.close (tie.spec (λ c. search rules) first-slot-requires (λ c. search rules) find-requires returns)

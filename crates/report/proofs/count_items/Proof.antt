@@ -5,9 +5,9 @@ use Rattle.rules.specs.Index.{Item}
 use Rattle.rules.specs.Report.{sums_of, added}
 use Rattle.ordering.specs.Regions.{Small}
 use Rattle.index.specs.View.{SumsFrom, items_from}
-use Rattle.report.specs.Items.{onto-small}
+use Rattle.report.specs.Items.{onto-small, items-end}
 use Rattle.report.specs.Stored.{Stored, stored-none}
-use Rattle.index.specs.Steps.{Walks, entries_from, items-end, sums-onward}
+use Rattle.index.specs.Steps.{Walks, entries_from, sums-onward}
 use Rattle.report.proofs.count_items.Statement.{statement}
 use Rattle.report.proofs.count_items.Tie as tie
 

@@ -1,21 +1,19 @@
 -- Laws of the reading calls: the ways that a call can end. Of an entry that read found, the code's crate has the other ends.
-use Rattle.std.specs.Prelude.{ℕ, ◌≤◌, ◌<◌, ◌≡◌, refl, Bool, true, false, length}
-use Rattle.std.proofs.Math.Path.{ap}
-use Rattle.std.proofs.Common.{◌∙◌, arith, le-leb, eq-eqb}
+use Rattle.std.specs.Prelude.{ℕ, ◌≤◌, ◌<◌, ◌≡◌, true, false, length}
+use Rattle.std.proofs.Common.{ap, ◌∙◌, le-leb, eq-eqb}
 use mathlib.Core.List.{List, []}
-use Rattle.std.proofs.Math.Option.{Option, none, some}
+use Rattle.std.proofs.Math.Option.{none, some}
 use Rattle.std.proofs.lemmas.Bool.{lt-leb}
 use Rattle.rules.specs.Fields.{splice}
 use Rattle.rules.specs.Editions.{Edition}
 use Rattle.rules.specs.Names.{path_good}
 use Rattle.rules.specs.Index.{Entry, volume_name, type_file}
-use Rattle.rules.specs.Paths.{live_at, lookup, next_live}
-use Rattle.rules.specs.Refusals.{Verdict, refused, accepted, Volume, entries, judge}
+use Rattle.rules.specs.Paths.{lookup, next_live}
+use Rattle.rules.specs.Refusals.{refused, accepted, Volume, entries, judge}
 use Rattle.rules.specs.Refusals.Laws.{need-true, need-false, found_none, found_some}
-use Rattle.rules.specs.Outcome.{Outcome, done, conclude, no_volume, EntryNumbers, no_entry, numbers_of, FoundNumbers, none_found, ListedNumbers, none_listed}
+use Rattle.rules.specs.Outcome.{Outcome, done, conclude, no_volume, no_entry, ListedNumbers, none_listed, numbers_of}
 use Rattle.rules.specs.Outcome.Laws.{denied, conclude-refused, conclude-accepted, volume-refused, volume-judged, volume-denied, volume-done}
-use Rattle.rules.specs.Reading.{open_of, volume_numbers, steps_to, search_of, with_steps, find_of, FindStrict, FindWhole, read_of, file_bytes, list_of, listed}
-use Rattle.rules.specs.Reading.Steps.{steps-whole}
+use Rattle.rules.specs.Reading.{open_of, volume_numbers, find_of, read_of, file_bytes, list_of, listed}
 
 -- ---- an image that does not open
 module _ (s : List ℕ) (n : ℕ) (bad : judge s ≡ refused n) where
@@ -23,9 +21,9 @@ module _ (s : List ℕ) (n : ℕ) (bad : judge s ≡ refused n) where
   unfolding open_of
   open-refused out = volume-refused no_volume s out _ n bad
 
-  pub find-refused : (path : List ℕ) → find_of s path ≡ denied none_found s [] n
+  pub find-refused : (path : List ℕ) → find_of s path ≡ denied no_entry s [] n
   unfolding find_of
-  find-refused path = volume-refused none_found s [] _ n bad
+  find-refused path = volume-refused no_entry s [] _ n bad
 
   pub read-refused : (path out : List ℕ) → read_of s path out ≡ denied 0 s out n
   unfolding read_of
@@ -47,38 +45,17 @@ module _ (s : List ℕ) (v : Volume) (opens : judge s ≡ accepted v) where
   open_done out h = volume-done no_volume s out _ v _ opens (need-true 18 _ (le-leb (length (volume_name s)) (length out) h))
 
   module _ (path : List ℕ) where
-    pub find-name : path_good path ≡ false → find_of s path ≡ denied none_found s [] 10
+    pub find-name : path_good path ≡ false → find_of s path ≡ denied no_entry s [] 10
     unfolding find_of
-    find-name p = volume-denied none_found s [] _ v 10 opens (need-false 10 _ p)
+    find-name p = volume-denied no_entry s [] _ v 10 opens (need-false 10 _ p)
 
-    module _ (p : path_good path ≡ true) where
-      -- the numbers of an entry, and the steps of the search
-      abbrev stepped : EntryNumbers → FoundNumbers
-      stepped a = record { found = a; steps = steps_to (live_at path) v.items }
+    pub find_none : path_good path ≡ true → lookup path (entries v) ≡ none → find_of s path ≡ denied no_entry s [] 11
+    unfolding find_of
+    find_none p e = volume-denied no_entry s [] _ v 11 opens (need-true 10 _ p ∙ found_none 11 _ e)
 
-      find-searched : (o : Outcome EntryNumbers) → search_of s path v ≡ o → find_of s path ≡ with_steps (steps_to (live_at path) v.items) o
-      unfolding find_of
-      find-searched o e = volume-done none_found s [] _ v _ opens (need-true 10 _ p ∙ ap (λ x. accepted (with_steps (steps_to (live_at path) v.items) x)) e)
-
-      pub find_none : lookup path (entries v) ≡ none → find_of s path ≡ denied (stepped no_entry) s [] 11
-      unfolding search_of with_steps
-      find_none e = find-searched _ (conclude-refused no_entry s [] 11 (found_none 11 _ e))
-
-      pub find-done : (e : Entry) → lookup path (entries v) ≡ some e → find_of s path ≡ done (stepped (numbers_of v.geometry.edition e)) s []
-      unfolding search_of with_steps done
-      find-done e f = find-searched _ (conclude-accepted no_entry s [] _ (found_some 11 _ f))
-
-    -- every way that a find ends
-    pub find-ends : (P : Outcome FoundNumbers → Type 0) → P (denied none_found s [] 10)
-        → (lookup path (entries v) ≡ none → P (denied (record { found = no_entry; steps = steps_to (live_at path) v.items }) s [] 11))
-        → ((e : Entry) → P (done (record { found = numbers_of v.geometry.edition e; steps = steps_to (live_at path) v.items }) s []))
-        → P (find_of s path)
-    find-ends P bad gone there = by (path_good path) refl (lookup path (entries v)) refl
-      where
-        by : (b : Bool) → path_good path ≡ b → (o : Option Entry) → lookup path (entries v) ≡ o → P (find_of s path)
-        by false p o f = rw (find-name p) bad
-        by true p none f = rw (find_none p f) (gone f)
-        by true p (some e) f = rw (find-done p e f) (there e)
+    pub find-done : (e : Entry) → path_good path ≡ true → lookup path (entries v) ≡ some e → find_of s path ≡ done (numbers_of v.geometry.edition e) s []
+    unfolding find_of
+    find-done e p f = volume-done no_entry s [] _ v _ opens (need-true 10 _ p ∙ found_some 11 _ f)
 
     module _ (out : List ℕ) where
       pub read_name : path_good path ≡ false → read_of s path out ≡ denied 0 s out 10
@@ -100,23 +77,6 @@ module _ (s : List ℕ) (v : Volume) (opens : judge s ≡ accepted v) where
     pub list-none : next_live slot (entries v) ≡ none → list_of s slot out ≡ done none_listed s out
     unfolding list_of listed
     list-none e = volume-done none_listed s out _ v _ opens (ap (listed v.geometry.edition s out) e)
-
--- ---- what find gives beside a refusal
-pub find-strict : FindStrict
-unfolding done
-find-strict s path accept absent = by (judge s) refl accept absent
-  where
-    by : (d : Verdict Volume) → judge s ≡ d → ((find_of s path).refusal ≡ 0 → ⊥) → ((find_of s path).refusal ≡ 11 → ⊥) → (find_of s path).answer ≡ none_found
-    by (refused n) e f g = rw (find-refused s n e path)
-    by (accepted v) e f g =
-        find-ends s v e path (λ o. (o.refusal ≡ 0 → ⊥) → (o.refusal ≡ 11 → ⊥) → o.answer ≡ none_found)
-        (λ x y. refl) (λ z x y. absurd (y refl)) (λ z x y. absurd (x refl)) f g
-
-pub find-whole : FindWhole
-unfolding lookup done
-find-whole s path v e =
-    find-ends s v e path (λ o. o.refusal ≡ 11 → o.answer ≡ record { found = no_entry; steps = steps_to (λ x. false) v.items })
-    (λ z. absurd (omega arith)) (λ f z. ap (λ (n : ℕ). record { found = no_entry; steps = n }) (steps-whole (live_at path) v.items f)) (λ x z. absurd (omega arith))
 
 -- ---- list, from the entry on that it found
 unfoldable pub list_entry : Edition → List ℕ → Entry → List ℕ → Outcome ListedNumbers

@@ -17,7 +17,7 @@ use Rattle.rules.specs.Refusals.{Verdict, refused, accepted, need, need_found, a
 use Rattle.rules.specs.Refusals.Laws.{need-true, need-false, found_none, found_some}
 use Rattle.rules.specs.Outcome.{done, conclude, on_volume}
 use Rattle.rules.specs.Outcome.Laws.{denied, conclude-refused, conclude-accepted, volume-refused, volume-denied, volume-done}
-use Rattle.rules.specs.Writing.{Written, New, tidied, format_of, fresh_geometry, formatted, create_of, nearest_live, new_slots, new_blocks, Place, place_run, place_file, site_of, created, region_cleared, trimmed_to, Writes, on_deletable, wiped, delete_of, deleted, delete_keep_of, DeletesAlike, restore_of, restored, reclaim_of, undeleted, cleared}
+use Rattle.rules.specs.Writing.{Written, New, tidied, format_of, fresh_geometry, formatted, create_of, nearest_live, new_slots, new_blocks, Place, place_run, place_file, site_of, created, region_cleared, trimmed_to, on_deletable, wiped, delete_of, deleted, delete_keep_of, DeletesAlike, restore_of, restored, reclaim_of, undeleted, cleared}
 
 abbrev pub refused_write : List ℕ → ℕ → Written
 refused_write s n = denied tt s [] n
@@ -69,7 +69,7 @@ module _ (s : List ℕ) (n : ℕ) (bad : judge s ≡ refused n) where
   unfolding create_of
   create-refused new path stamp = volume-refused tt s [] _ n bad
 
-  pub deletable-refused : (path : List ℕ) (write : Writes) → on_deletable s path write ≡ refused_write s n
+  pub deletable-refused : (path : List ℕ) (write : List ℕ → Volume → Entry → List ℕ) → on_deletable s path write ≡ refused_write s n
   unfolding on_deletable
   deletable-refused path write = volume-refused tt s [] _ n bad
 
@@ -88,7 +88,7 @@ module _ (s : List ℕ) (v : Volume) (opens : judge s ≡ accepted v) where
     unfolding create_of
     create-later new path stamp = volume-denied tt s [] _ v 9 opens (need-false 9 _ later)
 
-    pub deletable-later : (path : List ℕ) (write : Writes) → on_deletable s path write ≡ refused_write s 9
+    pub deletable-later : (path : List ℕ) (write : List ℕ → Volume → Entry → List ℕ) → on_deletable s path write ≡ refused_write s 9
     unfolding on_deletable
     deletable-later path write = volume-denied tt s [] _ v 9 opens (need-false 9 _ later)
 
@@ -144,7 +144,7 @@ module _ (s : List ℕ) (v : Volume) (opens : judge s ≡ accepted v) where
                   (need-true 9 _ may ∙ need-true 10 _ p ∙ need-true 12 _ free ∙ need-true 13 _ d ∙ found_some 15 _ r ∙ found_some 16 _ b)
 
     -- both deletes, whatever they write
-    module _ (path : List ℕ) (write : Writes) where
+    module _ (path : List ℕ) (write : List ℕ → Volume → Entry → List ℕ) where
       pub deletable-name : path_good path ≡ false → on_deletable s path write ≡ refused_write s 10
       unfolding on_deletable
       deletable-name p = volume-denied tt s [] _ v 10 opens (need-true 9 _ may ∙ need-false 10 _ p)
@@ -240,7 +240,7 @@ unfolding and_then number_of
 then-alike (refused n) f g h = refl
 then-alike (accepted v) f g h = h v
 
-number-alike : (s path : List ℕ) (write other : Writes) → (on_deletable s path write).refusal ≡ (on_deletable s path other).refusal
+number-alike : (s path : List ℕ) (write other : List ℕ → Volume → Entry → List ℕ) → (on_deletable s path write).refusal ≡ (on_deletable s path other).refusal
 unfolding on_deletable on_volume done number_of
 number-alike s path write other =
     number_is s _
