@@ -1,11 +1,13 @@
 // Bytes per block and the stored block size field, both ways.
 
+#![tactic(auto)]
+
 ghost use Rattle.std.specs.Prelude.{◌≡◌, ◌≤◌};
 ghost use Rattle.rules.specs.SuperBlock.{field_of, block_bytes};
 ghost use Rattle.blocks.specs.View.{field_view};
 
 // The stored field for a number of bytes per block.
-#[derive(Drop)]
+#[derive(Clone, Copy)]
 pub enum BlockField {
     Bad,
     Field(u8),

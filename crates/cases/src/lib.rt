@@ -1,1 +1,3 @@
 // The worked cases of the rules, as theorems by computation: see proofs/. There is no code here.
+
+#![tactic(auto)]

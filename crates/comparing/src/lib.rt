@@ -1,10 +1,12 @@
 // A name compared with a path: the byte at the path's last place, then both from the start. The bytes of the name that are looked at are counted.
 
+#![tactic(auto)]
+
 ghost use Rattle.std.specs.Prelude.{◌≡◌, false, ◌≤◌, length};
 ghost use Rattle.rules.specs.Comparing.{at_last, last_alike, goes_on, walked, looked};
 ghost use Rattle.comparing.specs.Walk.{is_then};
 
-#[derive(Drop)]
+#[derive(Clone, Copy)]
 pub struct Compared {
     pub same: bool,
     pub looked: usize,

@@ -1,7 +1,9 @@
 // The answers of the calls that read, as include/sfs.h declares them. What each call promises: specs/Contracts.antt.
 
+#![tactic(auto)]
+
 #[repr(C)]
-#[derive(Drop)]
+#[derive(Clone, Copy)]
 pub struct Volume {
     pub refusal: u32,
     pub version: u32,
@@ -17,7 +19,7 @@ pub struct Volume {
 }
 
 #[repr(C)]
-#[derive(Drop)]
+#[derive(Clone, Copy)]
 pub struct Entry {
     pub refusal: u32,
     pub kind: u32,
@@ -29,7 +31,7 @@ pub struct Entry {
 }
 
 #[repr(C)]
-#[derive(Drop)]
+#[derive(Clone, Copy)]
 pub struct Listed {
     pub refusal: u32,
     pub kind: u32,
@@ -42,14 +44,14 @@ pub struct Listed {
 }
 
 #[repr(C)]
-#[derive(Drop)]
+#[derive(Clone, Copy)]
 pub struct Content {
     pub refusal: u32,
     pub length: u64,
 }
 
 #[repr(C)]
-#[derive(Drop)]
+#[derive(Clone, Copy)]
 pub struct Records {
     pub refusal: u32,
     pub count: u64,

@@ -1,5 +1,7 @@
 // Bytes copied into a lent slice, zeros behind them, and the places that lend a part of an image for writing and reading.
 
+#![tactic(auto)]
+
 ghost use Rattle.std.specs.Prelude.{◌≡◌, ◌+◌, ◌-◌, ◌*◌, ◌≤◌, ◌<◌, length, replicate};
 ghost use Rattle.rules.specs.Lists.{padded, part};
 ghost use Rattle.rules.specs.Fields.{splice};

@@ -1,5 +1,7 @@
 // The call create: planned first, then tidied and written at one place, so that a refusal cannot have written.
 
+#![tactic(auto)]
+
 ghost use Rattle.rules.specs.Fields.{signed_of};
 ghost use Rattle.contracts.specs.Promises.{Creates};
 ghost use Rattle.placing.specs.Site.{new_of};

@@ -1,5 +1,7 @@
 // The exported calls as steps of a run: that each export's own contract says so is what ties demand 3 to the code. See specs/Runs.antt.
 
+#![tactic(auto)]
+
 ghost use Rattle.rules.specs.Lists.{All};
 ghost use Rattle.rules.specs.Writing.{new_file, new_directory};
 ghost use Rattle.rules.specs.History.{History, Holds, format, open_volume, find, list, list_all, read, create, delete, delete_keep, restore, reclaim};

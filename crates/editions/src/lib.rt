@@ -1,5 +1,7 @@
 // The editions of the layout, by value: what differs between them in code is here, side by side. Each test asks whether entries have sums, so that 1.10's comes first.
 
+#![tactic(auto)]
+
 ghost use Rattle.std.specs.Prelude.{◌≡◌, ◌+◌, ◌^◌, ◌≤◌, ◌<◌, eqb, leb};
 ghost use Rattle.rules.specs.Lists.{pick};
 ghost use Rattle.rules.specs.Editions.{version_of, version_named, edition_named, super_block_at, version_read, version_written, sum_length, sum_good, past_end, stored_end, keeps_deleted, before_directories};
@@ -8,7 +10,7 @@ ghost use Rattle.editions.specs.View.{edition_view};
 use units::{Block, Offset};
 
 // Whether entries carry a sum: those of 1.10 do, those of 1.0 do not.
-#[derive(Drop)]
+#[derive(Clone, Copy)]
 pub struct Edition {
     sums: bool,
 }

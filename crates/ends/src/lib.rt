@@ -1,5 +1,7 @@
 // The two ends of the index area: the start marker and the volume identifier, of whose layout this is the one owner in code.
 
+#![tactic(auto)]
+
 ghost use Rattle.std.specs.Prelude.{◌≡◌, ◌&&◌, ◌++◌, ◌+◌, ◌-◌, ◌≤◌, length};
 ghost use Rattle.rules.specs.Fields.{splice, signed_of};
 ghost use Rattle.rules.specs.Index.{identifier_at, volume_field, volume_name, volume_stamp, identifier_good, marker_good, marker_bytes, identifier_bytes};

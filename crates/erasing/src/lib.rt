@@ -1,5 +1,7 @@
 // The two deletes and reclaim. All is judged first; what is to be written is known by value before the first byte is.
 
+#![tactic(auto)]
+
 ghost use Rattle.std.specs.Prelude.{◌≡◌, true, List, ℕ, ◌+◌, ◌*◌, ◌≤◌, length, ℤ};
 ghost use Rattle.std.proofs.Math.Option.{some};
 ghost use Rattle.rules.specs.Fields.{signed_of};
@@ -35,7 +37,7 @@ use units::Offset;
 // ---- both deletes
 
 // What a delete comes to before it writes: a refusal, or, in a volume of this geometry, the path's live entry.
-#[derive(Drop)]
+#[derive(Clone, Copy)]
 pub enum Deletable {
     Refused(u8),
     Entry(Geometry, Head),

@@ -1,5 +1,7 @@
 // Little-endian fields, of four and eight bytes read at once and of every width written by one loop, and the checksum.
 
+#![tactic(auto)]
+
 ghost use Rattle.std.specs.Prelude.{◌≡◌, ◌+◌, ◌*◌, ◌%◌, ◌^◌, ◌≤◌, ◌<◌, length};
 ghost use Rattle.rules.specs.Fields.{le, le_bytes, splice, signed_of, stamp_bytes, byte_sum, checks, checksum_of, up_to_zero};
 

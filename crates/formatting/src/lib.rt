@@ -1,5 +1,7 @@
 // The call format: a fresh volume in place of whatever the image held. All is judged first; the image is written at one place.
 
+#![tactic(auto)]
+
 ghost use Rattle.std.specs.Prelude.{◌≡◌, ◌≤◌, length};
 ghost use Rattle.rules.specs.Fields.{signed_of};
 ghost use Rattle.rules.specs.Writing.{fresh_geometry, formatted};

@@ -1,5 +1,7 @@
 // Free runs, blocks held, the blocks that a file needs, and the least end of the data area.
 
+#![tactic(auto)]
+
 ghost use Rattle.std.specs.Prelude.{◌≡◌, List, ℕ, ◌+◌, ◌^◌, ◌≤◌, ◌<◌, drop, leb};
 ghost use Rattle.std.proofs.Math.Option.{none, some};
 ghost use Rattle.rules.specs.Lists.{pick, All};
@@ -18,7 +20,7 @@ use index::{Cursor, Next};
 use slots::Head;
 use units::{Block, Slot};
 
-#[derive(Drop)]
+#[derive(Clone, Copy)]
 pub enum Free {
     Nothing,
     At(Block),
@@ -106,7 +108,7 @@ pub fn held_blocks(img: &[u8], sums: &[u8], from: Cursor) -> u64
 }
 
 // The entries that a call takes away: all deleted ones, or the one whose first slot this is.
-#[derive(Drop)]
+#[derive(Clone, Copy)]
 pub enum Gone {
     Deleted,
     At(Slot),

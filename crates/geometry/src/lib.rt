@@ -1,5 +1,7 @@
 // The geometry that all calls share, by value.
 
+#![tactic(auto)]
+
 ghost use Rattle.std.specs.Prelude.{◌≡◌, ◌+◌, ◌*◌, ◌≤◌, ◌<◌, ◌^◌, eqb};
 ghost use Rattle.rules.specs.SuperBlock.{block_length, data_end, ceiling_block, writable, index_good, geometry_good, grow_index, extend_data, trim_data, with_stamp, restamp};
 ghost use Rattle.rules.specs.Fields.{signed_of};
@@ -25,7 +27,7 @@ const LEAST_FIELD: u8 = 1;
 const MOST_FIELD: u8 = 5;
 
 // The stamp is held as its 64 bits, as stored: code only moves it.
-#[derive(Drop)]
+#[derive(Clone, Copy)]
 pub struct Geometry {
     pub edition: Edition,
     pub stamp: u64,

@@ -1,5 +1,7 @@
 // The index area: what stands at a slot, whether the index is sound, the walk from entry to entry, and unused slots.
 
+#![tactic(auto)]
+
 ghost use Rattle.std.specs.Prelude.{◌≡◌, true, ℕ, ◌+◌, ◌*◌, ◌≤◌, ◌<◌, length, drop};
 ghost use Rattle.rules.specs.Index.Items.{faultless, step_slots};
 ghost use Rattle.rules.specs.Writing.{lowest_unused};
@@ -14,7 +16,7 @@ use slots::{Head, Spot};
 use units::{Offset, Slot};
 
 // Where a walk stands: the edition, the place of the next slot, its number, and how many slots are left.
-#[derive(Drop)]
+#[derive(Clone, Copy)]
 pub struct Cursor {
     pub edition: Edition,
     pub at: Offset,
@@ -23,21 +25,21 @@ pub struct Cursor {
 }
 
 // A slot that a walk stands at, an entry's first, an unused one or one left over, and the cursor behind what stands there.
-#[derive(Drop)]
+#[derive(Clone, Copy)]
 pub struct Ahead {
     pub here: Spot,
     pub rest: Cursor,
 }
 
 // What a walk meets next: an entry, by where it stands, and the cursor behind it.
-#[derive(Drop)]
+#[derive(Clone, Copy)]
 pub enum Stop {
     End,
     At(Spot, Cursor),
 }
 
 // The same with the entry's numbers.
-#[derive(Drop)]
+#[derive(Clone, Copy)]
 pub enum Next {
     End,
     Found(Head, Cursor),
@@ -195,7 +197,7 @@ pub fn next_entry(img: &[u8], sums: &[u8], from: Cursor) -> Next
 
 // ---- unused slots
 
-#[derive(Drop)]
+#[derive(Clone, Copy)]
 pub enum Unused {
     Nothing,
     At(Slot),

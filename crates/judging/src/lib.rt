@@ -1,5 +1,7 @@
 // An image judged, 1 to 8 in their order.
 
+#![tactic(auto)]
+
 ghost use Rattle.std.specs.Prelude.{◌≡◌, true, List, ℕ, ◌/◌, ◌≤◌, min, length};
 ghost use Rattle.rules.specs.Refusals.{judge, judge_read};
 ghost use Rattle.super_block.specs.View.{SuperGood};
@@ -17,14 +19,14 @@ pub const MOST: usize = 4_094;
 pub const FEW: usize = 512;
 
 // The refusal, or the geometry of an image that opens.
-#[derive(Drop)]
+#[derive(Clone, Copy)]
 pub enum Judged {
     Refused(u8),
     Good(Geometry),
 }
 
 // The same, with the place of the lent slice from which on the keys of the regions stand in order.
-#[derive(Drop)]
+#[derive(Clone, Copy)]
 pub enum Kept {
     Refused(u8),
     Good(Geometry, usize),

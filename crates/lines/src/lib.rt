@@ -1,6 +1,8 @@
 // The lines of an input that comes in pieces of any size, as names of files. Between pieces only the first 256 bytes of a line are kept, in a lent
 // buffer: one more than a name may have, so that a longer line is seen.
 
+#![tactic(auto)]
+
 ghost use Rattle.std.specs.Prelude.{◌≡◌, List, [], ◌∷◌, ◌++◌, true, ℕ, ◌≤◌, ◌<◌, length};
 ghost use Rattle.rules.specs.Fields.{has_zero};
 ghost use Rattle.rules.specs.Report.{name_of_file};
@@ -16,14 +18,14 @@ const LONGEST: usize = 255;
 const MOST: u64 = 1_000;
 
 // Where feeding stands between pieces: how many bytes of the line so far are kept, and how many lines may still be used.
-#[derive(Drop)]
+#[derive(Clone, Copy)]
 pub struct Lines {
     pub length: usize,
     pub left: u64,
 }
 
 // Where a piece goes on, and whether a line has ended before that place; how many bytes of the line are kept, and where feeding stands.
-#[derive(Drop)]
+#[derive(Clone, Copy)]
 pub struct Fed {
     pub at: usize,
     pub ended: bool,

@@ -1,5 +1,7 @@
 // Reads an image from standard input and writes its listing to standard output.
 
+#![tactic(auto)]
+
 use libc::{STDIN_FILENO, STDOUT_FILENO};
 
 fn main() {

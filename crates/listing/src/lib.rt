@@ -1,6 +1,8 @@
 // The text of the listing program: the volume name, a line for each live entry and a count, or a refusal.
 // Writers take a place in a lent output and return the place behind what they wrote. A date asks for 30 bytes of room.
 
+#![tactic(auto)]
+
 ghost use Rattle.std.specs.Prelude.{◌≡◌, true, List, ℕ, ◌+◌, ◌≤◌, length, take};
 ghost use Rattle.rules.specs.Lists.{only, All};
 ghost use Rattle.rules.specs.Index.{run_type};

@@ -1,5 +1,7 @@
 // The name rule and the path rules, over the bytes of a name.
 
+#![tactic(auto)]
+
 ghost use Rattle.std.specs.Prelude.{◌≡◌, ◌&&◌, List, ◌∷◌, ℕ, ◌≤◌, length, eqb, ltb};
 ghost use Rattle.rules.specs.Lists.{pick};
 ghost use Rattle.rules.specs.Fields.{up_to_zero, has_zero};
@@ -54,7 +56,7 @@ fn is_plain(b: u8) -> bool
 // ---- the name rule: an automaton, stepped byte by byte
 
 // Where a reader of a name stands: so many bytes are due to end the character that was begun, the next of them from low to high.
-#[derive(Drop)]
+#[derive(Clone, Copy)]
 struct Reader {
     due: u8,
     low: u8,
@@ -177,7 +179,7 @@ fn part_step(state: u8, b: u8) -> u8
 }
 
 // What stands before the first zero byte, or is all there is: a good name of so many bytes, or none.
-#[derive(Drop)]
+#[derive(Clone, Copy)]
 enum Stored {
     Bytes(usize),
     Bad,

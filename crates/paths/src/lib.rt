@@ -1,5 +1,7 @@
 // Paths of entries, compared with a path and looked up, by walks from slot to slot. What is looked at of the names is counted.
 
+#![tactic(auto)]
+
 ghost use Rattle.std.specs.Prelude.{◌≡◌, true, List, ℕ};
 ghost use Rattle.rules.specs.Lists.{any, first};
 ghost use Rattle.rules.specs.Index.{run_type};
@@ -19,14 +21,14 @@ use slots::{Head, Spot};
 use units::Slot;
 
 // The entry that a search found.
-#[derive(Drop)]
+#[derive(Clone, Copy)]
 pub enum Search {
     Nothing,
     Entry(Head),
 }
 
 // The same, and where the walk goes on behind the entry.
-#[derive(Drop)]
+#[derive(Clone, Copy)]
 pub enum Hit {
     Nothing,
     Entry(Head, Cursor),
@@ -36,7 +38,7 @@ pub enum Hit {
 
 // What an entry is looked for by, beside a path: its type is one of the two, and its name is the path and then this byte, zero for the path itself,
 // a slash for what lies below it. Plain numbers, since a search asks them of every entry.
-#[derive(Drop)]
+#[derive(Clone, Copy)]
 struct Sought {
     one: u8,
     other: u8,
@@ -102,7 +104,7 @@ fn passes(img: &[u8], e: Spot, what: Sought, path: &[u8]) -> Compared
 
 // How far a search came, and how many bytes of names it looked at: to a cursor, with nothing that passes before it, or to an entry that passes, with
 // the cursor behind it.
-#[derive(Drop)]
+#[derive(Clone, Copy)]
 enum Way {
     On(Cursor, usize),
     At(Spot, Cursor, usize),
@@ -164,13 +166,13 @@ fn pass_over(img: &[u8], sums: &[u8], from: Cursor, what: Sought, path: &[u8]) -
 }
 
 // What a search comes to, and how many bytes of the names on its way it looked at.
-#[derive(Drop)]
+#[derive(Clone, Copy)]
 struct Met {
     hit: Hit,
     looked: usize,
 }
 
-#[derive(Drop)]
+#[derive(Clone, Copy)]
 pub struct Found {
     pub entry: Search,
     pub looked: usize,

@@ -1,5 +1,7 @@
 // Where a new entry may go: anywhere, or before the entries of all its leading directories.
 
+#![tactic(auto)]
+
 ghost use Rattle.std.specs.Prelude.{◌≡◌, ◌≤◌, eqb};
 ghost use Rattle.rules.specs.Lists.{any};
 ghost use Rattle.rules.specs.Fields.{up_to_zero};

@@ -1,5 +1,7 @@
 // What a create writes at its site: sizes, start marker, run, and the file's bytes. All was judged before; nothing here refuses.
 
+#![tactic(auto)]
+
 ghost use Rattle.std.specs.Prelude.{◌≡◌, ◌*◌, ◌≤◌, length};
 ghost use Rattle.rules.specs.Fields.{signed_of};
 ghost use Rattle.rules.specs.Index.{slot_bytes};
@@ -13,7 +15,7 @@ use units::{Block, Slot};
 
 // Where a create puts what it makes: the geometry before and after, the run's first slot and its slots (in the index after any growth),
 // and the file's region.
-#[derive(Drop)]
+#[derive(Clone, Copy)]
 pub struct Site {
     pub old: Geometry,
     pub new: Geometry,

@@ -1,5 +1,7 @@
 // What a create judges before it writes, and where it puts what it makes.
 
+#![tactic(auto)]
+
 ghost use Rattle.std.specs.Prelude.{◌≡◌, List, ℕ, ◌+◌, ◌*◌, ◌/◌, ◌^◌, ◌≤◌, ◌<◌, min, length, drop};
 ghost use Rattle.rules.specs.Fields.{signed_of};
 ghost use Rattle.rules.specs.SuperBlock.{grow_index};
@@ -30,7 +32,7 @@ use units::{Block, Slot};
 // ---- a place for the run
 
 // Where a run goes, and the geometry after any growth of the index.
-#[derive(Drop)]
+#[derive(Clone, Copy)]
 enum RunPlace {
     Nothing,
     At(Slot, Geometry),
@@ -77,7 +79,7 @@ fn place_file(img: &[u8], grown: Geometry, keys: &[u64], i: usize, k: u64) -> Fr
 // ---- the plan
 
 // The refusal of a create, or where it puts what it makes.
-#[derive(Drop)]
+#[derive(Clone, Copy)]
 pub enum Plan {
     Refused(u8),
     At(Site),

@@ -1,5 +1,7 @@
 // The reading calls: open, find, list and read. Each takes any image and any arguments.
 
+#![tactic(auto)]
+
 ghost use Rattle.std.specs.Prelude.{◌≡◌, true, List, [], ℕ, ◌≤◌, length};
 ghost use Rattle.rules.specs.Paths.{lookup};
 ghost use Rattle.rules.specs.Comparing.{find_looked};

@@ -1,5 +1,7 @@
 // A whole listing: a record for each live entry from a slot on, up to the first that does not fit, in one judging.
 
+#![tactic(auto)]
+
 ghost use Rattle.std.specs.Prelude.{◌≡◌, true, false, List, ◌++◌, ℕ, ◌+◌, ◌≤◌, length, leb};
 ghost use Rattle.rules.specs.Fields.{le_bytes, stamp_bytes, signed_of};
 ghost use Rattle.rules.specs.Index.{run_type};
@@ -97,7 +99,7 @@ fn fits(img: &[u8], h: Head, room: usize) -> bool
 
 // What was put into an output: the place behind the last record, and the slot to go on from, 0 where no entry is left. `full`: the next record
 // does not fit.
-#[derive(Drop)]
+#[derive(Clone, Copy)]
 struct Put {
     count: u64,
     end: usize,

@@ -1,6 +1,8 @@
 // The test for shared blocks over a lent table of regions: they are gathered into it, put in order there, and neighbours are compared. The plain engine stands beside it. Both
 // are for whoever judges regions alone; no call of the library goes through them.
 
+#![tactic(auto)]
+
 ghost use Rattle.std.specs.Prelude.{◌≡◌, List, ◌∷◌, map, ◌-◌, ◌≤◌, length, take, drop};
 ghost use Rattle.rules.specs.RegionTable.{apart_number, table_of, sharing_of};
 ghost use Rattle.rules.specs.Lists.{All};
@@ -24,7 +26,7 @@ const PLACES: usize = 4_096;
 
 // A place of a table: the blocks from start up to, not including, end, in either edition.
 #[repr(C)]
-#[derive(Drop)]
+#[derive(Clone, Copy)]
 pub struct Region {
     pub start: Block,
     pub end: Block,
@@ -33,7 +35,7 @@ pub struct Region {
 // 0 for yes, no two regions share a block, and 7 for no; 18 where the table has too few places; or what the image is refused with before its regions are
 // compared. And how many regions now stand in the table.
 #[repr(C)]
-#[derive(Drop)]
+#[derive(Clone, Copy)]
 pub struct TableAnswer {
     pub answer: u32,
     pub regions: usize,
@@ -83,7 +85,7 @@ fn conclude(found: TableAnswer, apart: bool) -> TableAnswer
 }
 
 // Where the entries of an index begin, if it is sound.
-#[derive(Drop)]
+#[derive(Clone, Copy)]
 enum First {
     Unsound,
     At(Cursor),
@@ -173,7 +175,7 @@ fn sort_last(keys: &mut [u64], n: usize)
 }
 
 // How far regions were compared: where the last one ends, and whether each before it starts at or past the end of its neighbour.
-#[derive(Drop)]
+#[derive(Clone, Copy)]
 struct Passed {
     end: Block,
     apart: bool,

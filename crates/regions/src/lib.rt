@@ -1,5 +1,7 @@
 // Regions: whether each is good, and whether no two share a block.
 
+#![tactic(auto)]
+
 ghost use Rattle.std.specs.Prelude.{◌≡◌, ◌&&◌, List, length, drop, eqb, ℕ, ◌+◌, ◌≤◌, ◌<◌};
 ghost use Rattle.rules.specs.Lists.{all, every_two, keep_if};
 ghost use Rattle.rules.specs.Editions.{past_end};
@@ -92,7 +94,7 @@ fn regions_apart(a: Head, b: Head) -> bool
 const ENDS: u64 = 131_072;
 
 // The regions of entries, gathered from the end of a lent slice on: where they begin, unless one is not good.
-#[derive(Drop)]
+#[derive(Clone, Copy)]
 pub enum Gathered {
     Bad,
     From(usize),
@@ -200,7 +202,7 @@ fn order(keys: &mut [u64], i: usize, tmp: &mut [u64]) -> bool
 }
 
 // Regions judged; if they are sound, their keys stand in order from a place of the lent slice on.
-#[derive(Drop)]
+#[derive(Clone, Copy)]
 pub enum Regions {
     Unsound,
     From(usize),

@@ -1,6 +1,8 @@
 // A report on many images: a table of sums, six kinds by slots, blocks and bytes, carried from image to image; counts of files that could not
 // be read and of refusals; and the text of both. Sums and counts wrap at 64 bits, which no report on 1,000 images reaches.
 
+#![tactic(auto)]
+
 ghost use Rattle.std.specs.Prelude.{◌≡◌, ℕ, ◌+◌, ◌^◌, ◌<◌, ◌≤◌, List, [], ◌∷◌, length, take, drop};
 ghost use Rattle.rules.specs.Lists.{both, All};
 ghost use Rattle.rules.specs.Text.{joined};

@@ -1,5 +1,7 @@
 // Reads names of image files from standard input, one a line, and writes a report on the images to standard output.
 
+#![tactic(auto)]
+
 ghost use Rattle.std.specs.Prelude.{◌≡◌, [], ℕ, ◌≤◌, length};
 ghost use Rattle.rules.specs.Report.{Report, sums_of};
 ghost use Rattle.lines.specs.Feeding.{GoneOn};
@@ -10,14 +12,14 @@ use libc::{STDIN_FILENO, STDOUT_FILENO};
 use lines::{Fed, Lines};
 
 // What came of reading a file.
-#[derive(Drop)]
+#[derive(Clone, Copy)]
 enum Got {
     Failed,
     Bytes(usize),
 }
 
 // The part of a piece of the input that is still to be fed.
-#[derive(Drop)]
+#[derive(Clone, Copy)]
 struct Window {
     at: usize,
     end: usize,

@@ -1,5 +1,7 @@
 // The call restore. All is judged first; what is to be written is known by value before the first byte is.
 
+#![tactic(auto)]
+
 ghost use Rattle.rules.specs.Fields.{signed_of};
 ghost use Rattle.rules.specs.Writing.{restore_of};
 ghost use Rattle.contracts.specs.Promises.{Restores};

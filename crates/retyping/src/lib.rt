@@ -1,5 +1,7 @@
 // An entry of another type, or of none any more: what a delete that keeps and a restore plan, and the one place that writes it.
 
+#![tactic(auto)]
+
 ghost use Rattle.std.specs.Prelude.{◌≡◌, ◌+◌, ◌*◌, ◌≤◌, length, ℤ};
 ghost use Rattle.rules.specs.Fields.{splice, signed_of};
 ghost use Rattle.rules.specs.Index.{slot_bytes, slot_at, unused_bytes, retyped};
@@ -16,7 +18,7 @@ use units::{Offset, Slot};
 
 // What a call comes to: a refusal, or, in a volume of this geometry, the place of an entry's first slot and its new type, or its slots if they
 // become unused.
-#[derive(Drop)]
+#[derive(Clone, Copy)]
 pub enum Retyping {
     Refused(u8),
     Retype(Geometry, Offset, u8),

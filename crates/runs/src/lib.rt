@@ -1,5 +1,7 @@
 // Runs and slots of the index area, written: a head and its name with the sum over them, another type, unused slots and the start marker.
 
+#![tactic(auto)]
+
 ghost use Rattle.std.specs.Prelude.{◌≡◌, [], ◌∷◌, ◌++◌, ◌+◌, ◌-◌, ◌*◌, ◌^◌, ◌≤◌, ◌<◌, length, replicate};
 ghost use Rattle.rules.specs.Lists.{pick, part};
 ghost use Rattle.rules.specs.Fields.{splice, le_bytes, signed_of, stamp_bytes};

@@ -1,5 +1,7 @@
 // The calls for C: thin exports, documented in include/sfs.h; what each promises is named in crates/contracts/specs/Promises.antt.
 
+#![tactic(auto)]
+
 ghost use Rattle.std.specs.Prelude.{◌≡◌};
 ghost use Rattle.contracts.specs.Promises.{TellsApi, Formats, OpensVolume, Finds, Lists, ListsAll, Reads, CreatesFile, CreatesDirectory, Deletes, DeletesKeeping, Restores, Reclaims, WritesListing, CountsImage, WritesReport};
 

@@ -1,5 +1,7 @@
 // Slots of the index area: the one owner of their layout in code. What a slot's first byte says, and an entry's fields and name.
 
+#![tactic(auto)]
+
 ghost use Rattle.std.specs.Prelude.{◌≡◌, true, false, List, ℕ, ◌+◌, ◌*◌, ◌/◌, ◌^◌, ◌≤◌, ◌<◌, length, get_or, take, drop, leb};
 ghost use Rattle.rules.specs.Editions.{sum_good, keeps_deleted};
 ghost use Rattle.rules.specs.Index.{file_type, run_type, live_type, deleted_type, stray_type, stale_type, name_at, continuing, run_slots, run_whole, stale_slots, name_field, file_field, entry_at};
@@ -164,7 +166,7 @@ const FILE_NAME: u64 = 34;
 const DIRECTORY_NAME: u64 = 10;
 
 // An entry as it stands in its first slot; the stamp is held as its bits, and the end as it is stored.
-#[derive(Drop)]
+#[derive(Clone, Copy)]
 pub struct Head {
     pub edition: Edition,
     pub at: Offset,
@@ -178,7 +180,7 @@ pub struct Head {
 }
 
 // A slot that starts an entry, or is unused or left over: its edition, place, first byte and number.
-#[derive(Drop)]
+#[derive(Clone, Copy)]
 pub struct Spot {
     pub edition: Edition,
     pub at: Offset,

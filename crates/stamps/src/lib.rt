@@ -1,5 +1,7 @@
 // Stamps: signed numbers of 64 bits, rounded-down division, and the date of any stamp.
 
+#![tactic(auto)]
+
 ghost use Rattle.std.specs.Prelude.{◌≡◌, pos, nat_abs, ◌+ℤ◌, ◌*ℤ◌, ◌<ℤ◌};
 ghost use Prim.Native.Nat.{◌+◌, ◌-◌, ◌<◌, ◌^◌};
 ghost use Rattle.std.specs.Int.Signed.{mag};
@@ -47,14 +49,14 @@ pub fn floor_mod(a: i64, b: u64) -> u64
     }
 }
 
-#[derive(Drop)]
+#[derive(Clone, Copy)]
 pub struct Date {
     pub year: i64,
     pub month: u64,
     pub day: u64,
 }
 
-#[derive(Drop)]
+#[derive(Clone, Copy)]
 struct YearDay {
     year: u64,
     day: u64,
@@ -80,7 +82,7 @@ fn year_day(e: u64) -> YearDay
     }
 }
 
-#[derive(Drop)]
+#[derive(Clone, Copy)]
 struct MonthDay {
     month: u64,
     day: u64,
@@ -138,7 +140,7 @@ fn date_of(days: i64) -> Date
     date_at(floor_div(z, 146097), floor_mod(z, 146097))
 }
 
-#[derive(Drop)]
+#[derive(Clone, Copy)]
 pub struct Moment {
     pub date: Date,
     pub hour: u64,

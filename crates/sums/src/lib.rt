@@ -1,5 +1,7 @@
 // Sums of slots, taken once for a walk: two of them tell whether a run sums right, so that no slot is summed anew for every run that claims it.
 
+#![tactic(auto)]
+
 ghost use Rattle.std.specs.Prelude.{◌≡◌, ◌+◌, ◌*◌, ◌%◌, ◌≤◌, ◌<◌, length, take, drop};
 ghost use Rattle.editions.specs.View.{edition_view};
 ghost use Rattle.rules.specs.Fields.{byte_sum};

@@ -1,5 +1,7 @@
 // The super-block and the index that it leads to: the refusals 1 to 6.
 
+#![tactic(auto)]
+
 ghost use Rattle.std.specs.Prelude.{◌≡◌, ◌+◌, ◌/◌, ◌≤◌, length, get_or};
 ghost use Rattle.rules.specs.Fields.{splice};
 ghost use Rattle.rules.specs.Editions.{super_block_at};
@@ -56,7 +58,7 @@ fn byte_at(img: &[u8], ed: Edition, o: u64) -> u8
 // ---- refusals 1 to 5
 
 // The first of them, or the geometry of an image that has none.
-#[derive(Drop)]
+#[derive(Clone, Copy)]
 pub enum SuperBlock {
     Refused(u8),
     Good(Geometry),
@@ -104,7 +106,7 @@ fn magic_good(img: &[u8], ed: Edition) -> bool
 }
 
 // The edition that an image's magic says.
-#[derive(Drop)]
+#[derive(Clone, Copy)]
 enum Magic {
     Nothing,
     Of(Edition),

@@ -1,5 +1,7 @@
 // Text written into a lent output. Each function writes from a place on and returns the place behind what it wrote.
 
+#![tactic(auto)]
+
 ghost use Rattle.std.specs.Prelude.{◌≡◌, [], ◌∷◌, ◌++◌, ◌+◌, ◌-◌, ◌^◌, ◌≤◌, ◌<◌, length, nat_abs};
 ghost use Rattle.std.specs.Int.Signed.{mag};
 ghost use Rattle.rules.specs.Fields.{signed_of};

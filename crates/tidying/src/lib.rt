@@ -1,5 +1,7 @@
 // What an accepted writing call does first: deleted runs that are left over, and stray slots, become unused slots.
 
+#![tactic(auto)]
+
 ghost use Rattle.std.specs.Prelude.{◌≡◌, true, ◌+◌, ◌-◌, ◌*◌, ◌≤◌, length};
 ghost use Rattle.rules.specs.SuperBlock.{Geometry as Sizes};
 ghost use Rattle.rules.specs.Index.{slot_at, items_of, index_sound};

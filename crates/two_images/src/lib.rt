@@ -1,30 +1,32 @@
 // The exported calls on two images: where these agree in what find, read, list and list all look at, so do the answers. See specs/Unseen.antt for
 // what that leaves out.
 
+#![tactic(auto)]
+
 ghost use Rattle.std.specs.Prelude.{◌≡◌};
 ghost use Rattle.rules.specs.History.{Agree};
 
 use contracts::{Content, Entry, Listed, Records};
 
-#[derive(Drop)]
+#[derive(Clone, Copy)]
 pub struct FoundBoth {
     pub one: Entry,
     pub other: Entry,
 }
 
-#[derive(Drop)]
+#[derive(Clone, Copy)]
 pub struct ReadBoth {
     pub one: Content,
     pub other: Content,
 }
 
-#[derive(Drop)]
+#[derive(Clone, Copy)]
 pub struct ListedBoth {
     pub one: Listed,
     pub other: Listed,
 }
 
-#[derive(Drop)]
+#[derive(Clone, Copy)]
 pub struct RecordsBoth {
     pub one: Records,
     pub other: Records,

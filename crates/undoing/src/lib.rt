@@ -1,5 +1,7 @@
 // What can be undone: nothing of a plain delete, a delete that keeps, and nothing behind a reclaim. Exported calls, alone or one after the other.
 
+#![tactic(auto)]
+
 ghost use Rattle.undoing.specs.Undone.{LeavesNothing, Undone, TooLate};
 
 // A plain delete.

@@ -1,5 +1,7 @@
 // Block numbers, slot numbers and byte offsets: three units, converted only by the functions here.
 
+#![tactic(auto)]
+
 ghost use Rattle.std.specs.Prelude.{◌≡◌, true, ◌+◌, ◌-◌, ◌*◌, ◌/◌, ◌^◌, ◌≤◌, ◌<◌, max, ltb, leb};
 
 // The longest image, in bytes: no offset lies past it.
@@ -10,15 +12,15 @@ pub const SLOT_BYTES: u64 = 64;
 
 // A block number, from the start of the media, or the block past a region's end. A table of regions that C lends has it as a number.
 #[repr(C)]
-#[derive(Drop)]
+#[derive(Clone, Copy)]
 pub struct Block(u64);
 
 // A slot number of the index area.
-#[derive(Drop)]
+#[derive(Clone, Copy)]
 pub struct Slot(u64);
 
 // A place in the image, in bytes.
-#[derive(Drop)]
+#[derive(Clone, Copy)]
 pub struct Offset(usize);
 
 impl Block {
