@@ -1,0 +1,8 @@
+use mathlib.Core.Path.{refl, ap, ◌∙◌}
+use mir.Syntax.{w64}
+use mir.ValLaws.{to_z-of_z}
+use Rattle.rules.specs.Writing.{reclaim_of}
+use Rattle.demand3.proofs.serve_reclaim.Goals as goal
+
+pub returns : goal.returns
+returns c = (_, _, c.sfs_reclaim.ensures ∙ ap (reclaim_of c.args.image.now) (to_z-of_z w64 c.args.stamp c.ranges.stamp), refl)

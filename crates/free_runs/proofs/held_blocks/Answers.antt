@@ -1,0 +1,49 @@
+use Prim.Native.Nat.{◌+◌}
+use mathlib.Core.Path.{◌≡◌}
+use native.Mathlib.Omega.{arith}
+use Rattle.rules.specs.Lists.{All}
+use Rattle.rules.specs.Regions.{held_blocks}
+use Rattle.slots.specs.View.{head_view}
+use Rattle.ordering.specs.Regions.{Small}
+use Rattle.index.specs.Steps.{Step, entries_from, sums-step}
+use Rattle.index.specs.Turns.{told-end, told-found}
+use Rattle.free_runs.specs.Sums.{held-end, held_next, small-stored, small-next, held_fits}
+use Rattle.free_runs.proofs.held_blocks.Goals as goal
+
+pub returns-in-End : goal.returns-in-End
+returns-in-End c = omega (arith, held-end _ (told-end _ _ _ c.next_entry.ensures c.in-End.is), c.loop-e.invariant.2)
+
+step : (c : goal.In-Found-2) → Step c.args.img.now c.loop-e.c c.in-Found.e c.in-Found.rest
+step c = told-found _ _ _ c.next_entry.ensures _ _ c.in-Found.is
+
+small : (c : goal.In-Found-2) → let s = c.args.img.now in
+    Small (head_view s c.in-Found.e) × All Small (entries_from s c.in-Found.rest)
+small c = small-next _ _ _ (step c).entries c.loop-e.invariant.1
+
+-- what is held once the entry is counted, and what is left, one entry further
+turn : (c : goal.After-file_blocks-held) → let s = c.args.img.now in
+    c.loop-e.held + c.file_blocks-held.result + held_blocks (entries_from s c.in-Found.rest) ≡ held_blocks (entries_from s c.args.from)
+turn c =
+    omega (arith, held_next _ _ _ (step c.before.before).entries, c.file_blocks-held.ensures c.args.img.now, c.loop-e.invariant.2)
+
+pub overflow_add-held : goal.overflow_add-held
+overflow_add-held c =
+    let p = c.requires in
+    record { fits = omega (arith, turn c, held_fits _ _ p.0 p.1) }
+
+pub loop-e-preserved : goal.loop-e-preserved
+loop-e-preserved c =
+    let l = c.loop-e in
+    ((step c.before.before).walks, (small c.before.before).1, turn c, sums-step _ _ l.c l.invariant.3 _ _ (step c.before.before))
+
+pub loop-e-init : goal.loop-e-init
+loop-e-init c = let p = c.requires in (p.0, p.1, omega arith, p.2)
+
+pub next_entry-requires : goal.next_entry-requires
+next_entry-requires c = (c.loop-e.invariant.0, c.loop-e.invariant.3)
+
+pub file_blocks-held-requires : goal.file_blocks-held-requires
+file_blocks-held-requires c = small-stored _ _ (small c.before).0
+
+pub loop-e-smaller : goal.loop-e-smaller
+loop-e-smaller c = (step c.before.before).less

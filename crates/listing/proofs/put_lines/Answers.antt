@@ -1,0 +1,37 @@
+use Prim.Native.Nat.{◌+◌}
+use mathlib.Core.Path.{◌≡◌, refl, ap, ◌∙◌}
+use native.Mathlib.Omega.{arith}
+use lib.ListN.{length, length-append}
+use Rattle.slots.specs.View.{head_view}
+use Rattle.index.specs.Steps.{Step, entries_from, sums-step}
+use Rattle.index.specs.Turns.{told-end, told-found}
+use Rattle.text.specs.Wrote.{left-none, left-next}
+use Rattle.listing.specs.Lines.{entry_text, live_text, text-end, text-next}
+use Rattle.listing.proofs.put_lines.Goals as goal
+
+pub loop-h-init : goal.loop-h-init
+loop-h-init c = let p = c.requires in (p.0, (refl, refl, refl), p.2)
+
+pub next_entry-requires : goal.next_entry-requires
+next_entry-requires c = (c.loop-h.invariant.0, c.loop-h.invariant.2)
+
+pub returns-in-End : goal.returns-in-End
+returns-in-End c = left-none _ _ _ _ _ _ (text-end _ (told-end _ _ _ c.next_entry.ensures c.in-End.is)) c.loop-h.invariant.1
+
+step : (c : goal.In-Found-2) → Step c.args.img.now c.loop-h.c c.in-Found.h c.in-Found.rest
+step c = told-found _ _ _ c.next_entry.ensures _ _ c.in-Found.is
+
+-- what is left, one entry further
+rest : (c : goal.In-Found-2) → let s = c.args.img.now in
+    length (live_text (entries_from s c.loop-h.c)) ≡ length (entry_text (head_view s c.in-Found.h)) + length (live_text (entries_from s c.in-Found.rest))
+rest c = ap length (text-next _ _ _ (step c).entries) ∙ length-append (entry_text _) _
+
+pub put_entry-end-requires : goal.put_entry-end-requires
+put_entry-end-requires c = ((step c.before.before).head, omega (arith, rest c.before.before, c.loop-h.invariant.1, c.requires.1))
+
+pub loop-h-smaller : goal.loop-h-smaller
+loop-h-smaller c = (step c.before.before.before.before.before).less
+
+pub loop-h-preserved : goal.loop-h-preserved
+loop-h-preserved c =
+    ((step c.before.before.before.before.before).walks, left-next _ _ _ _ _ _ _ _ _ _ (text-next _ _ _ (step c.before.before.before.before.before).entries) (omega (arith, c.loop-h.invariant.1, c.requires.1)) (omega arith) c.loop-h.invariant.1 c.put_entry-end.ensures, sums-step _ _ c.loop-h.c c.loop-h.invariant.2 _ _ (step c.before.before.before.before.before))

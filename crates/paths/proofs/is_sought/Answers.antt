@@ -1,0 +1,11 @@
+use borrow.Author.Tests.{eq-eqb, ne_eqb}
+use Rattle.paths.specs.View.{sought_kind}
+use Rattle.paths.proofs.is_sought.Goals as goal
+
+pub returns-then-kind-what : goal.returns-then-kind-what
+unfolding sought_kind
+returns-then-kind-what c = rw (eq-eqb _ _ c.if-kind-what.true)
+
+pub returns : goal.returns
+unfolding sought_kind
+returns c = rw (ne_eqb _ _ c.if-kind-what.false)

@@ -1,0 +1,23 @@
+use mathlib.Core.Path.{◌≡◌, sym, ◌∙◌}
+use mathlib.Core.Bool.{false}
+use borrow.Author.Tests.{eq-eqb, ne_eqb}
+use Rattle.rules.specs.Lists.{pick}
+use Rattle.rules.specs.Index.{file_type}
+use Rattle.rules.specs.Regions.{region_good}
+use Rattle.slots.specs.View.{head_view}
+use Rattle.regions.proofs.region_good.Goals as goal
+
+pub returns-then-is_file : goal.returns-then-is_file
+unfolding region_good head_view pick
+returns-then-is_file c s = rw (sym c.is_file.ensures ∙ c.if-is_file.true) (c.file_region_good.ensures s)
+
+no-file : (c : goal.Else-is_file) → file_type c.args.h.kind ≡ false
+no-file c = sym c.is_file.ensures ∙ c.if-is_file.false
+
+pub returns-then-h-eq-UNUSABLE : goal.returns-then-h-eq-UNUSABLE
+unfolding region_good head_view pick
+returns-then-h-eq-UNUSABLE c s = rw (no-file c.before.before.before, eq-eqb _ _ c.if-h-eq-UNUSABLE.true) (c.within_data.ensures s)
+
+pub returns : goal.returns
+unfolding region_good head_view pick
+returns c s = rw (no-file c.before.before, ne_eqb _ _ c.if-h-eq-UNUSABLE.false)

@@ -1,0 +1,29 @@
+use Rattle.std.proofs.Common.{◌≡◌, ap, ◌∙◌, arith}
+use Rattle.rules.specs.Refusals.{refused, judge_read}
+use Rattle.rules.specs.Report.{Table}
+use Rattle.judging.specs.View.{read-refused, read-good, read_opened}
+use Rattle.report.specs.Stored.{Stored, table-held}
+use Rattle.report.specs.View.{report_view}
+use Rattle.report.specs.Adding.{image-refused, image-opened, refused-low}
+use Rattle.report.proofs.add_judged.Goals as goal
+
+stored : (c : goal.Start) → Stored c.args.table
+stored c = table-held c.args.table _ c.well-formed.1.1.0
+
+refusal : (c : goal.In-Refused-2) → judge_read c.args.img.now ≡ refused c.in-Refused.n
+refusal c = read-refused _ _ c.requires.1 _ c.in-Refused.is
+
+pub count_one-requires : goal.count_one-requires
+count_one-requires c = omega (arith, refused-low _ _ (refusal c.before.before), c.requires.0)
+
+pub count_volume-requires : goal.count_volume-requires
+count_volume-requires c = (read_opened _ _ c.requires.1 _ c.in-Good.is, stored c.before.before.before.before.before)
+
+pub returns-in-Refused : goal.returns-in-Refused
+returns-in-Refused c =
+    ap (report_view c.args.table) c.count_one.ensures ∙ image-refused _ _ _ _ (stored c.before.before.before.before.before.before.before.before.before) (refusal c.before.before.before.before.before)
+
+pub returns-in-Good : goal.returns-in-Good
+returns-in-Good c =
+    ap (λ (t : Table). report_view t c.args.counts.now) c.count_volume.ensures
+    ∙ image-opened _ _ _ _ (read-good _ _ c.requires.1 _ c.in-Good.is)

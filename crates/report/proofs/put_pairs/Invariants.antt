@@ -1,0 +1,12 @@
+use Rattle.std.proofs.Common.{◌-◌, ◌≤◌, length, drop}
+use Rattle.rules.specs.Report.{pairs}
+use Rattle.text.specs.Wrote.{ToWrite}
+use Rattle.report.proofs.put_pairs.Given as goal
+
+-- What is still to be written are the pairs of the counts from the place on.
+abbrev pub invariant-loop-i : goal.invariant-loop-i
+invariant-loop-i l =
+    ToWrite l.initial.out l.at (pairs 1 (drop 1 l.counts)) l.out l.end (pairs l.i (drop l.i l.counts)) × (l.i ≤ length l.counts)
+
+abbrev pub decreases-loop-i : goal.decreases-loop-i
+decreases-loop-i l = length l.counts - l.i

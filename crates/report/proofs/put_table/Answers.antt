@@ -1,0 +1,22 @@
+use Rattle.std.proofs.Common.{◌≡◌, length, arith}
+use Rattle.text.specs.Wrote.{wrote-both, wrote_as}
+use Rattle.report.specs.Stored.{table-held}
+use Rattle.report.specs.Text.{table-text, table-length}
+use Rattle.report.proofs.put_table.Goals as goal
+
+long : (c : goal.Start) → length c.args.table ≡ 6
+long c = (table-held c.args.table _ c.well-formed.1.0).long
+
+pub put_upper-middle-requires : goal.put_upper-middle-requires
+put_upper-middle-requires c = omega (arith, table-length c.args.table (long c.before.before))
+
+pub put_lower-requires : goal.put_lower-requires
+put_lower-requires c = omega (arith, table-length c.args.table (long c.before.before.before.before.before.before))
+
+pub returns : goal.returns
+returns c =
+    let n = table-length c.args.table (long c.before.before.before.before.before.before.before.before.before) in
+    wrote_as _ _ _ _ _ _ (table-text c.args.table (long c.before.before.before.before.before.before.before.before.before)) (wrote-both _ _ _ _ _ _ _ _ (omega arith) c.put_upper-middle.ensures c.put_lower.ensures)
+
+pub shape_of-out : goal.shape_of-out
+shape_of-out c = omega arith

@@ -1,0 +1,9 @@
+use mathlib.Core.Path.{ap, ◌∙◌}
+use Rattle.rules.specs.Writing.{delete_of}
+use Rattle.sfs.proofs.Stamps.{stamp-is}
+use Rattle.sfs.proofs.sfs_delete.Goals as goal
+
+pub returns : goal.returns
+returns c =
+    c.delete.ensures
+    ∙ ap (delete_of c.args.image.now c.args.path.now) (stamp-is c.args.stamp _ c.ranges.stamp c.to_bits.ensures)

@@ -1,0 +1,12 @@
+use mathlib.Core.Path.{sym, ◌∙◌}
+use Rattle.rules.specs.Lists.{pick}
+use Rattle.rules.specs.Writing.{deleted_kind}
+use Rattle.slots.proofs.deleted_kind.Goals as goal
+
+pub returns-then-is_file : goal.returns-then-is_file
+unfolding deleted_kind pick
+returns-then-is_file c = rw (sym c.is_file.ensures ∙ c.if-is_file.true)
+
+pub returns : goal.returns
+unfolding deleted_kind pick
+returns c = rw (sym c.is_file.ensures ∙ c.if-is_file.false)
