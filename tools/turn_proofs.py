@@ -157,7 +157,7 @@ class Turner:
         lines = text.split("\n")
         self.uses = [l for l in lines if l.startswith("use ")]
         self.decls = decls("\n".join(l for l in lines if not l.startswith("use ")))
-        self.comment = ""
+        self.imported = set()
 
     def say(self, what):
         self.left.append(what)
@@ -212,6 +212,9 @@ class Turner:
         """The new path for old field parts, from a record at the place."""
         if not parts:
             return []
+        parts = [{"type-inv": "type_inv", "well-formed": "well_formed"}.get(p, p) for p in parts]
+        if parts[0] == "pre":
+            parts[0] = "requires"
         first = parts[0]
         if first == "requires" and len(parts) > 1 and self.own_requires and parts[1] in ("0", "1"):
             names, k, p = self.own_requires, 0, parts[1:]
@@ -223,7 +226,7 @@ class Turner:
                     return ["requires", names[-1]] + p[1:]
                 if p and p[0] == "0":
                     return ["requires", names[k]] + p[1:]
-        if first in ("args", "requires", "ranges", "well_formed"):
+        if first in ("args", "requires", "ranges", "well_formed", "type_inv"):
             return parts
         if len(parts) > 1 and parts[1] == "given":
             got = self.fn.arm(place, first, parts[1:])
@@ -251,7 +254,7 @@ class Turner:
             return [fields[k]] + p[1:]
         return path
 
-    def expression(self, text, env):
+    def expression(self, text, env, owner=None):
         """Turns a body in which env gives record variables their places."""
         # place maps are the identity now, since a record has the fields of all places before it
         changed = True
@@ -281,6 +284,8 @@ class Turner:
             return tok
 
         text = TOK.sub(token, text)
+        # a test of `!f(..)` says now what f answered
+        text = re.sub(r"(?<![\w'-])not-(?:true|false) _ ([\w.'-]+\.(?:true|false))", r"\1", text)
         # lets of a call's clauses
         for m in list(re.finditer(r"let\s+([\w'-]+)\s*=\s*([\w.'-]+)\s+in", text)):
             name, path = m.group(1), m.group(2).split(".")
@@ -314,7 +319,13 @@ class Turner:
                     if n is None:
                         self.say(f"{h} {v}: {self.fn.new[env[v]]} is not behind {self.fn.new[p]}")
                         return m.group(0)
-                    return m.group(0)[: m.start(2) - m.start(0)] + v + ".before" * n
+                    if n == 0:
+                        return m.group(0)
+                    at = owner or self.fn.new[env[v]]
+                    self.imported.add(self.fn.new[p])
+                    if owner is None:
+                        self.imported.add(at)
+                    return m.group(0)[: m.start(2) - m.start(0)] + f"(goal.at.{at} {v}).{self.fn.new[p]}"
 
                 text = re.sub(rf"(?<![\w.'-]){re.escape(h)}{args}\s+([\w']+)(?=[\s)\],;]|$)", call, text)
         return text
@@ -326,8 +337,9 @@ class Turner:
             i = self.fn.index.get(norm(m.group(1)))
             if i is None:
                 self.say(f"no place {m.group(1)}")
-                return "goal." + m.group(1)
-            return "goal." + self.fn.new[i]
+                return m.group(1)
+            self.imported.add(self.fn.new[i])
+            return self.fn.new[i]
 
         text = re.sub(r"tie\.([A-Z][^\s()]*)((?: invariant-[^\s()]+| decreases-[^\s()]+)*)", one, text)
         return text
@@ -379,6 +391,8 @@ class Turner:
         args = balanced(m.group(1) or "") if m else []
         nl = 2 * len(x["loops"])
         loops, args = args[:nl], args[nl:]
+        if len(args) != len(x["needs"]):
+            args = [a for a in args if not a.startswith("slice-aggregate")]
         needs = x["needs"]
         by_decl = {}
         if len(args) == len(needs):
@@ -476,6 +490,8 @@ class Turner:
             mm = re.match(rf"(?:pub )?{re.escape(n)} : tie\.Need-(\S+)", code)
             if mm:
                 new = by_decl[n][0][1] if n in by_decl else by_type(mm.group(1))
+                if new is None and mm.group(1).startswith("slice-aggregate"):
+                    continue
                 if new is None:
                     self.say(f"no need {mm.group(1)} for {n}")
                     new = mm.group(1)
@@ -493,7 +509,7 @@ class Turner:
                     if rhs.strip() == "search rules":
                         skip = True
                         continue
-                    rhs = self.expression(rhs, {params[0]: at.get(new)} if params else {})
+                    rhs = self.expression(rhs, {params[0]: at.get(new)} if params else {}, new)
                     if rhs.strip() == "search rules":
                         skip = True
                         continue
@@ -547,7 +563,7 @@ class Turner:
             if len(params) > 1 and params[1] == "κs":
                 params.pop(1)
             for old, new in pairs:
-                b = self.expression(" " + rhs, {params[0]: at.get(new)}).strip()
+                b = self.expression(" " + rhs, {params[0]: at.get(new)}, new).strip()
                 if b in ("search rules", "search needs"):
                     continue
                 fields = x["asked"].get(old)
@@ -561,7 +577,10 @@ class Turner:
             inv_text = "\n".join(uses + [f"use Rattle.{self.crate}.proofs.{fpath}.Given as goal"]) + "\n\n" + "\n\n".join(inv_decls + invariants) + "\n"
         if answers:
             more = [f"use Rattle.{self.crate}.proofs.{fpath}.Invariants.{{{', '.join(sorted(inv_helpers))}}}"] if inv_helpers else []
-            ans_text = "\n".join(uses + more + [f"use Rattle.{self.crate}.proofs.{fpath}.Goals as goal"]) + "\n\n" + "\n\n".join(answers) + "\n"
+            goals = [f"use Rattle.{self.crate}.proofs.{fpath}.Goals as goal"]
+            if self.imported:
+                goals.append(f"use Rattle.{self.crate}.proofs.{fpath}.Goals.{{{', '.join(sorted(self.imported))}}}")
+            ans_text = "\n".join(uses + more + goals) + "\n\n" + "\n\n".join(answers) + "\n"
         return inv_text, ans_text
 
 

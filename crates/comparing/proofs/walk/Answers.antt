@@ -1,7 +1,6 @@
 use Prim.Native.Nat.{◌-◌}
 use mathlib.Core.Path.{sym, ◌∙◌}
 use native.Mathlib.Omega.{arith}
-use borrow.Author.Tests.{not-true, not-false}
 use Rattle.comparing.specs.Walk.{thus, walked-to-first, walked-to-stop, walked-to-next, walked-to-behind, walked-to-out}
 use Rattle.comparing.proofs.walk.Goals as goal
 
@@ -9,12 +8,12 @@ pub returns-then-not-goes_on : goal.returns-then-not-goes_on
 returns-then-not-goes_on c =
     let l = c.loop-i in
     thus _ _ _ _ _ _ c.apart.ensures
-    (walked-to-stop _ _ _ l.i l.invariant.2 (omega arith) (omega arith) (sym c.goes_on.ensures ∙ not-true _ c.if-not-goes_on.true))
+    (walked-to-stop _ _ _ l.i l.invariant.2 (omega arith) (omega arith) (sym c.goes_on.ensures ∙ c.if-not-goes_on.true))
 
 pub loop-i-preserved : goal.loop-i-preserved
 loop-i-preserved c =
     let l = c.loop-i in
-    (omega arith, l.invariant.1, walked-to-next _ _ _ l.i l.invariant.2 (omega arith) (omega arith) (sym c.goes_on.ensures ∙ not-false _ c.if-not-goes_on.false))
+    (omega arith, l.invariant.1, walked-to-next _ _ _ l.i l.invariant.2 (omega arith) (omega arith) (sym c.goes_on.ensures ∙ c.if-not-goes_on.false))
 
 pub returns-then-i-name : goal.returns-then-i-name
 returns-then-i-name c =

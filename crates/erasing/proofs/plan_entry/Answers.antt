@@ -2,7 +2,6 @@ use mathlib.Core.Path.{◌≡◌, sym, ap, ◌∙◌}
 use mathlib.Core.Bool.{true}
 use mathlib.Core.Option.{some}
 use native.Mathlib.Omega.{arith}
-use borrow.Author.Tests.{not-true, not-false}
 use Rattle.rules.specs.SuperBlock.{writable}
 use Rattle.rules.specs.Paths.{lookup, any_below}
 use Rattle.rules.specs.Names.{path_good}
@@ -16,72 +15,74 @@ use Rattle.judging.specs.View.{volume_of, opened-super, opened-walks, opened-ent
 use Rattle.retyping.specs.Planned.{found-whole}
 use Rattle.erasing.specs.Delete.{DeletePlanned, region-held}
 use Rattle.erasing.proofs.plan_entry.Goals as goal
+use Rattle.erasing.proofs.plan_entry.Goals.{After-any_below, After-first_slot-from, Else-not-is_writable, Else-not-path_good, In-Entry, Start}
 
-abbrev volume : goal.Start → Volume
+abbrev volume : Start → Volume
 volume x = volume_of x.args.img.now (geometry_view x.args.g)
 
 -- what each test and search that was passed says
-current : (c : goal.Else-not-is_writable) → writable (geometry_view c.args.g) ≡ true
-current c = sym c.is_writable.ensures ∙ not-false _ c.if-not-is_writable.false
+current : (c : Else-not-is_writable) → writable (geometry_view c.args.g) ≡ true
+current c = sym c.is_writable.ensures ∙ c.if-not-is_writable.false
 
-good : (c : goal.Else-not-path_good) → path_good c.args.path.now ≡ true
-good c = sym c.path_good.ensures ∙ not-false _ c.if-not-path_good.false
+good : (c : Else-not-path_good) → path_good c.args.path.now ≡ true
+good c = sym c.path_good.ensures ∙ c.if-not-path_good.false
 
-entries-are : (c : goal.After-first_slot-from) → entries_from c.args.img.now c.first_slot-from.result ≡ entries (volume c.before.before.before.before.before.before.before.before)
+entries-are : (c : After-first_slot-from) → entries_from c.args.img.now c.first_slot-from.result ≡ entries (volume (goal.at.After-first_slot-from c).Start)
 entries-are c = opened-entries _ _ c.requires c.first_slot-from.result c.first_slot-from.ensures.0
 
-walks : (c : goal.After-first_slot-from) → Walks c.args.img.now c.first_slot-from.result
+walks : (c : After-first_slot-from) → Walks c.args.img.now c.first_slot-from.result
 walks c = opened-walks _ _ c.requires _ c.first_slot-from.ensures.0 c.first_slot-from.ensures.1
 
-found_from : (c : goal.In-Entry) → let s = c.args.img.now in
+found_from : (c : In-Entry) → let s = c.args.img.now in
     lookup c.args.path.now (entries_from s c.first_slot-from.result) ≡ some (head_view s c.in-Entry.h)
 found_from c = (searched-entry _ _ _ c.lookup.ensures _ c.in-Entry.is).0
 
-lies : (c : goal.In-Entry) → HeadIn c.args.img.now c.in-Entry.h
+lies : (c : In-Entry) → HeadIn c.args.img.now c.in-Entry.h
 lies c = (searched-entry _ _ _ c.lookup.ensures _ c.in-Entry.is).1
 
-found : (c : goal.In-Entry) → lookup c.args.path.now (entries (volume c.before.before.before.before.before.before.before.before.before.before.before.before.before.before)) ≡ some (head_view c.args.img.now c.in-Entry.h)
-found c = ap (lookup _) (sym (entries-are c.before.before.before.before.before.before)) ∙ found_from c
+found : (c : In-Entry) → lookup c.args.path.now (entries (volume (goal.at.In-Entry c).Start)) ≡ some (head_view c.args.img.now c.in-Entry.h)
+found c = ap (lookup _) (sym (entries-are (goal.at.In-Entry c).After-first_slot-from)) ∙ found_from c
 
-below : (c : goal.After-any_below) → any_below c.args.path.now (entries (volume c.before.before.before.before.before.before.before.before.before.before.before.before.before.before.before.before)) ≡ c.any_below.result
-below c = ap (any_below _) (sym (entries-are c.before.before.before.before.before.before.before.before)) ∙ sym c.any_below.ensures
+below : (c : After-any_below) → any_below c.args.path.now (entries (volume (goal.at.After-any_below c).Start)) ≡ c.any_below.result
+below c = ap (any_below _) (sym (entries-are (goal.at.After-any_below c).After-first_slot-from)) ∙ sym c.any_below.ensures
 
 pub returns-then-not-is_writable : goal.returns-then-not-is_writable
 unfolding DeletePlanned
-returns-then-not-is_writable c = deletable-later _ _ c.requires (sym c.is_writable.ensures ∙ not-true _ c.if-not-is_writable.true) _
+returns-then-not-is_writable c = deletable-later _ _ c.requires (sym c.is_writable.ensures ∙ c.if-not-is_writable.true) _
 
 pub returns-then-not-path_good : goal.returns-then-not-path_good
 unfolding DeletePlanned
-returns-then-not-path_good c z = deletable-name _ _ c.requires (current c.before.before) _ z (sym c.path_good.ensures ∙ not-true _ c.if-not-path_good.true)
+returns-then-not-path_good c z =
+    deletable-name _ _ c.requires (current (goal.at.returns-then-not-path_good c).Else-not-is_writable) _ z (sym c.path_good.ensures ∙ c.if-not-path_good.true)
 
 pub first_slot-from-requires : goal.first_slot-from-requires
 first_slot-from-requires c = (opened-super _ _ c.requires, omega arith)
 
 pub lookup-requires : goal.lookup-requires
-lookup-requires c = (walks c.before.before, c.first_slot-from.ensures.6)
+lookup-requires c = (walks (goal.at.lookup-requires c).After-first_slot-from, c.first_slot-from.ensures.6)
 
 pub any_below-requires : goal.any_below-requires
 any_below-requires c =
-    (walks c.before.before.before.before.before.before.before, opened-paths _ _ c.pre c.first_slot-from.result c.first_slot-from.ensures.0, found_from c.before, c.first_slot-from.ensures.6)
+    (walks (goal.at.any_below-requires c).After-first_slot-from, opened-paths _ _ c.requires c.first_slot-from.result c.first_slot-from.ensures.0, found_from (goal.at.any_below-requires c).In-Entry, c.first_slot-from.ensures.6)
 
 pub returns-then-any_below : goal.returns-then-any_below
 unfolding DeletePlanned
 returns-then-any_below c z =
-    deletable-full _ _ c.pre (current c.before.before.before.before.before.before.before.before.before.before.before.before.before) _ z (good c.before.before.before.before.before.before.before.before.before.before.before) _ (found c.before.before.before) (below c.before ∙ c.if-any_below.true)
+    deletable-full _ _ c.requires (current (goal.at.returns-then-any_below c).Else-not-is_writable) _ z (good (goal.at.returns-then-any_below c).Else-not-path_good) _ (found (goal.at.returns-then-any_below c).In-Entry) (below (goal.at.returns-then-any_below c).After-any_below ∙ c.if-any_below.true)
 
 pub returns-in-Nothing : goal.returns-in-Nothing
 unfolding DeletePlanned
 returns-in-Nothing c z =
-    deletable-none _ _ c.requires (current c.before.before.before.before.before.before.before.before.before) _ z (good c.before.before.before.before.before.before.before)
-    (ap (lookup _) (sym (entries-are c.before.before.before.before.before)) ∙ searched-nothing _ _ _ c.lookup.ensures c.in-Nothing.is)
+    deletable-none _ _ c.requires (current (goal.at.returns-in-Nothing c).Else-not-is_writable) _ z (good (goal.at.returns-in-Nothing c).Else-not-path_good)
+    (ap (lookup _) (sym (entries-are (goal.at.returns-in-Nothing c).After-first_slot-from)) ∙ searched-nothing _ _ _ c.lookup.ensures c.in-Nothing.is)
 
 pub returns-else-any_below : goal.returns-else-any_below
 unfolding DeletePlanned lookup head_view
 returns-else-any_below c =
     record {
-      opened = c.pre;
-      room = found-whole _ _ c.pre _ _ (found c.before.before.before) (lies c.before.before.before).low;
-      region = region-held _ _ c.pre _ _ (found c.before.before.before);
-      lives = found c.before.before.before;
-      outcome = λ write. deletable-done _ _ c.pre (current c.before.before.before.before.before.before.before.before.before.before.before.before.before) _ write (good c.before.before.before.before.before.before.before.before.before.before.before) _ (found c.before.before.before) (below c.before ∙ c.if-any_below.false);
+      opened = c.requires;
+      room = found-whole _ _ c.requires _ _ (found (goal.at.returns-else-any_below c).In-Entry) (lies (goal.at.returns-else-any_below c).In-Entry).low;
+      region = region-held _ _ c.requires _ _ (found (goal.at.returns-else-any_below c).In-Entry);
+      lives = found (goal.at.returns-else-any_below c).In-Entry;
+      outcome = λ write. deletable-done _ _ c.requires (current (goal.at.returns-else-any_below c).Else-not-is_writable) _ write (good (goal.at.returns-else-any_below c).Else-not-path_good) _ (found (goal.at.returns-else-any_below c).In-Entry) (below (goal.at.returns-else-any_below c).After-any_below ∙ c.if-any_below.false);
     }

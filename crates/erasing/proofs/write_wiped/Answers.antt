@@ -17,4 +17,4 @@ put_wiped-requires c =
 
 pub returns : goal.returns
 returns c path found =
-    wiped-written _ _ c.pre.0 path _ found c.pre.2 _ _ _ _ c.least_sizes-least.ensures c.place_of-at.ensures _ c.tidy.ensures (c.put_wiped.ensures c.args.img.now)
+    wiped-written _ _ c.requires.0 path _ found c.requires.2 _ _ _ _ c.least_sizes-least.ensures c.place_of-at.ensures _ c.tidy.ensures (c.put_wiped.ensures c.args.img.now)

@@ -10,7 +10,7 @@ pub put_date-date-requires : goal.put_date-date-requires
 put_date-date-requires c = let a = c.args in omega (arith, line-length a.img.now a.h)
 
 pub put_path-requires : goal.put_path-requires
-put_path-requires c = (c.pre.0, c.pre.1, omega (arith, line-length c.args.img.now c.args.h))
+put_path-requires c = (c.requires.0, c.requires.1, omega (arith, line-length c.args.img.now c.args.h))
 
 pub shape_of-out : goal.shape_of-out
 shape_of-out c = omega arith

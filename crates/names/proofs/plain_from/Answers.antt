@@ -2,7 +2,6 @@ use Prim.Native.Nat.{◌-◌}
 use mathlib.Core.Path.{sym, ◌∙◌}
 use native.Mathlib.Omega.{arith}
 use borrow.Author.Rules.{rules}
-use borrow.Author.Tests.{not-false}
 use Rattle.names.specs.Reader.{plain_more}
 use Rattle.names.proofs.plain_from.Goals as goal
 
@@ -14,7 +13,7 @@ returns-then-not-is_plain c = c.loop-i.invariant
 
 pub loop-i-preserved : goal.loop-i-preserved
 loop-i-preserved c =
-    (omega (arith, c.loop-i.invariant.0), omega arith, plain_more c.args.s.now _ _ c.loop-i.invariant.2 (sym c.is_plain.ensures ∙ not-false _ c.if-not-is_plain.false))
+    (omega (arith, c.loop-i.invariant.0), omega arith, plain_more c.args.s.now _ _ c.loop-i.invariant.2 (sym c.is_plain.ensures ∙ c.if-not-is_plain.false))
 
 pub returns : goal.returns
 returns c = c.loop-i.invariant

@@ -1,7 +1,6 @@
 use Prim.Native.Nat.{◌-◌}
 use mathlib.Core.Path.{refl, sym, ◌∙◌}
 use native.Mathlib.Omega.{arith}
-use borrow.Author.Tests.{not-true, not-false}
 use borrow.Author.Rules.{rules}
 use Rattle.path_rules.specs.Gathering.{key_entry, chain-end, chain-stop, chain_next}
 use Rattle.path_rules.specs.Shared.{pivoted-first, pivoted-two, pivoted-next}
@@ -18,12 +17,12 @@ may_follow-requires c =
 pub returns-then-not-may_follow : goal.returns-then-not-may_follow
 returns-then-not-may_follow c =
     let a = c.args in
-    chain-stop (key_entry a.img.now a.from) a.keys.now c.loop-i.i _ (omega arith) refl _ (sym c.may_follow.ensures ∙ not-true _ c.if-not-may_follow.true) ∙ c.loop-i.invariant.0
+    chain-stop (key_entry a.img.now a.from) a.keys.now c.loop-i.i _ (omega arith) refl _ (sym c.may_follow.ensures ∙ c.if-not-may_follow.true) ∙ c.loop-i.invariant.0
 
 pub loop-i-preserved : goal.loop-i-preserved
 loop-i-preserved c =
     let a = c.args in (
-      chain_next (key_entry a.img.now a.from) a.keys.now c.loop-i.i _ (omega arith) refl _ (sym c.may_follow.ensures ∙ not-false _ c.if-not-may_follow.false) ∙ c.loop-i.invariant.0,
+      chain_next (key_entry a.img.now a.from) a.keys.now c.loop-i.i _ (omega arith) refl _ (sym c.may_follow.ensures ∙ c.if-not-may_follow.false) ∙ c.loop-i.invariant.0,
       pivoted-next _ _ _ a.keys.now c.loop-i.i _ (omega arith) refl _ c.loop-i.invariant.1,
     )
 

@@ -1,6 +1,5 @@
 use mathlib.Core.Path.{sym, ◌∙◌}
 use native.Mathlib.Omega.{arith}
-use borrow.Author.Tests.{not-true, not-false}
 use Rattle.rules.specs.Lists.{keep_if}
 use Rattle.path_rules.proofs.put_live.Goals as goal
 
@@ -8,7 +7,7 @@ pub returns-then-not-is_live : goal.returns-then-not-is_live
 unfolding keep_if
 returns-then-not-is_live c =
     record {
-      keys_after = rw (sym c.is_live.ensures ∙ not-true _ c.if-not-is_live.true);
+      keys_after = rw (sym c.is_live.ensures ∙ c.if-not-is_live.true);
       place = (omega arith, omega arith);
     }
 
@@ -16,6 +15,6 @@ pub returns : goal.returns
 unfolding keep_if
 returns c =
     record {
-      keys_after = rw (sym c.is_live.ensures ∙ not-false _ c.if-not-is_live.false, ← c.slots_to-key.ensures) c.put_before.ensures.1;
+      keys_after = rw (sym c.is_live.ensures ∙ c.if-not-is_live.false, ← c.slots_to-key.ensures) c.put_before.ensures.1;
       place = (omega (arith, c.put_before.ensures.0), omega (arith, c.put_before.ensures.0));
     }

@@ -1,5 +1,4 @@
 use mathlib.Core.Path.{sym, ◌∙◌}
-use borrow.Author.Tests.{not-true, not-false}
 use Rattle.rules.specs.Lists.{pick}
 use Rattle.rules.specs.Index.{deleted_type}
 use Rattle.rules.specs.Paths.{deleted_at, is_deleted}
@@ -10,7 +9,7 @@ use Rattle.paths.proofs.first_deleted.Goals as goal
 pub returns-then-not-keeps_deleted : goal.returns-then-not-keeps_deleted
 returns-then-not-keeps_deleted c =
     record {
-      hits = hits-none _ _ _ (none-deleted _ _ (all-undeleted _ (sym c.keeps_deleted.ensures ∙ not-true _ c.if-not-keeps_deleted.true) _ _ _));
+      hits = hits-none _ _ _ (none-deleted _ _ (all-undeleted _ (sym c.keeps_deleted.ensures ∙ c.if-not-keeps_deleted.true) _ _ _));
       place = no-hit-of _;
     }
 
@@ -18,7 +17,7 @@ pub next_hit-requires : goal.next_hit-requires
 next_hit-requires c =
     (
   c.requires.0,
-  of-deleted _ (sym c.keeps_deleted.ensures ∙ not-false _ c.if-not-keeps_deleted.false),
+  of-deleted _ (sym c.keeps_deleted.ensures ∙ c.if-not-keeps_deleted.false),
   c.requires.1,
 )
 

@@ -1,6 +1,5 @@
 use mathlib.Core.Path.{sym, ◌∙◌}
 use native.Mathlib.Omega.{arith}
-use borrow.Author.Tests.{not-true, not-false}
 use Rattle.planning.specs.Places.{grown-field, grown-not, grown-at}
 use Rattle.planning.proofs.grown_place.Goals as goal
 
@@ -11,7 +10,7 @@ pub areas_fit-requires : goal.areas_fit-requires
 areas_fit-requires c = grown-field _ _ c.requires.0 _ _ c.grow_index-grown.ensures
 
 pub returns-then-not-areas_fit : goal.returns-then-not-areas_fit
-returns-then-not-areas_fit c = grown-not _ _ c.requires.0 _ _ c.grow_index-grown.ensures (sym c.areas_fit.ensures ∙ not-true _ c.if-not-areas_fit.true)
+returns-then-not-areas_fit c = grown-not _ _ c.requires.0 _ _ c.grow_index-grown.ensures (sym c.areas_fit.ensures ∙ c.if-not-areas_fit.true)
 
 pub returns : goal.returns
-returns c = grown-at _ _ c.requires.0 _ _ c.grow_index-grown.ensures (sym c.areas_fit.ensures ∙ not-false _ c.if-not-areas_fit.false) _ c.at.ensures
+returns c = grown-at _ _ c.requires.0 _ _ c.grow_index-grown.ensures (sym c.areas_fit.ensures ∙ c.if-not-areas_fit.false) _ c.at.ensures

@@ -9,9 +9,10 @@ use Rattle.index.specs.View.{sums_on}
 use Rattle.index.specs.Unused.{unused_view}
 use Rattle.planning.specs.Places.{places-begin, place-unused, place-grown}
 use Rattle.planning.proofs.place_run.Goals as goal
+use Rattle.planning.proofs.place_run.Goals.{After-lowest_unused}
 
 -- what the cursor over the slots for the path has before it, searched
-searched : (c : goal.After-lowest_unused) → let a = c.args in
+searched : (c : After-lowest_unused) → let a = c.args in
     lowest_unused a.n (places_for (edition_view a.g.edition) a.path.now (items_of a.img.now (geometry_view a.g))) ≡ unused_view c.lowest_unused.result
 searched c = ap (lowest_unused _) (sym (places-begin _ _ _ c.requires.1 _ _ c.places_for.ensures)) ∙ sym c.lowest_unused.ensures
 
@@ -28,7 +29,7 @@ pub grown_place-requires : goal.grown_place-requires
 grown_place-requires c = let p = c.requires in ((opened-super _ _ p.0).good, p.3)
 
 pub returns-in-At : goal.returns-in-At
-returns-in-At c = sym (place-unused _ _ _ _ _ (searched c.before.before.before ∙ ap unused_view c.in-At.is))
+returns-in-At c = sym (place-unused _ _ _ _ _ (searched (goal.at.returns-in-At c).After-lowest_unused ∙ ap unused_view c.in-At.is))
 
 pub returns-in-Nothing : goal.returns-in-Nothing
-returns-in-Nothing c = c.grown_place.ensures ∙ sym (place-grown _ _ _ _ (searched c.before.before.before ∙ ap unused_view c.in-Nothing.is))
+returns-in-Nothing c = c.grown_place.ensures ∙ sym (place-grown _ _ _ _ (searched (goal.at.returns-in-Nothing c).After-lowest_unused ∙ ap unused_view c.in-Nothing.is))

@@ -2,9 +2,10 @@ use Prim.Native.Nat.{◌≤◌, ◌<◌}
 use native.Mathlib.Omega.{arith}
 use Rattle.ordering.specs.Regions.{extent_key}
 use Rattle.regions.proofs.key_at.Goals as goal
+use Rattle.regions.proofs.key_at.Goals.{After-number-2}
 
 -- the end of a region is less than 131,072
-below : (c : goal.After-number-2) → (c.number.result < 65_536) × (c.number-2.result ≤ 65_536)
+below : (c : After-number-2) → (c.number.result < 65_536) × (c.number-2.result ≤ 65_536)
 below c =
     let p = c.requires in
     (omega (arith, c.number.ensures, p.some, p.below), omega (arith, c.number-2.ensures, p.below))

@@ -1,12 +1,11 @@
 use mathlib.Core.Path.{sym, ◌∙◌}
-use borrow.Author.Tests.{not-true, not-false}
 use Rattle.rules.specs.Regions.{regions_sound}
 use Rattle.regions.proofs.plainly_sound.Goals as goal
 
 pub returns-then-not-all_good : goal.returns-then-not-all_good
 unfolding regions_sound
-returns-then-not-all_good c = rw (sym c.all_good.ensures ∙ not-true _ c.if-not-all_good.true)
+returns-then-not-all_good c = rw (sym c.all_good.ensures ∙ c.if-not-all_good.true)
 
 pub returns : goal.returns
 unfolding regions_sound
-returns c = rw (sym c.all_good.ensures ∙ not-false _ c.if-not-all_good.false) c.All-apart.ensures
+returns c = rw (sym c.all_good.ensures ∙ c.if-not-all_good.false) c.All-apart.ensures

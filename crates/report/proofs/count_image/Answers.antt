@@ -22,6 +22,6 @@ returns c =
     let nine : length cs ≡ 9 = omega (arith, mid_len 18 27 ns c.if-report-lt-NUMBERS.false) in
     let same : report_view c.add_judged-table.result cs ≡ with_image img (report_in ns) =
     c.add_judged-table.ensures ∙ ap (λ (t : Table). with_image img (report_view t (mid_of 18 9 ns))) c.table_in-before.ensures in
-    image-counted img ns c.if-report-lt-NUMBERS.false c.add_judged-table.result cs same (table-held c.add_judged-table.result _ c.add_judged-table.type-inv) nine
+    image-counted img ns c.if-report-lt-NUMBERS.false c.add_judged-table.result cs same (table-held c.add_judged-table.result _ c.add_judged-table.type_inv) nine
     _ (c.refusal_of.ensures img ∙ ap verdict_number c.judge_read-judged.ensures)
     _ (c.store_table.ensures ∙ ap (λ (x : List ℕ). splice x 0 (joined c.add_judged-table.result)) (lent_back ns 18 27 cs (omega arith) c.if-report-lt-NUMBERS.false nine))

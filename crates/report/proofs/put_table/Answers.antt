@@ -3,20 +3,21 @@ use Rattle.text.specs.Wrote.{wrote-both, wrote_as}
 use Rattle.report.specs.Stored.{table-held}
 use Rattle.report.specs.Text.{table-text, table-length}
 use Rattle.report.proofs.put_table.Goals as goal
+use Rattle.report.proofs.put_table.Goals.{Start}
 
-long : (c : goal.Start) → length c.args.table ≡ 6
-long c = (table-held c.args.table _ c.well-formed.1.0).long
+long : (c : Start) → length c.args.table ≡ 6
+long c = (table-held c.args.table _ c.well_formed.1.0).long
 
 pub put_upper-middle-requires : goal.put_upper-middle-requires
-put_upper-middle-requires c = omega (arith, table-length c.args.table (long c.before.before))
+put_upper-middle-requires c = omega (arith, table-length c.args.table (long (goal.at.put_upper-middle-requires c).Start))
 
 pub put_lower-requires : goal.put_lower-requires
-put_lower-requires c = omega (arith, table-length c.args.table (long c.before.before.before.before.before.before))
+put_lower-requires c = omega (arith, table-length c.args.table (long (goal.at.put_lower-requires c).Start))
 
 pub returns : goal.returns
 returns c =
-    let n = table-length c.args.table (long c.before.before.before.before.before.before.before.before.before) in
-    wrote_as _ _ _ _ _ _ (table-text c.args.table (long c.before.before.before.before.before.before.before.before.before)) (wrote-both _ _ _ _ _ _ _ _ (omega arith) c.put_upper-middle.ensures c.put_lower.ensures)
+    let n = table-length c.args.table (long (goal.at.returns c).Start) in
+    wrote_as _ _ _ _ _ _ (table-text c.args.table (long (goal.at.returns c).Start)) (wrote-both _ _ _ _ _ _ _ _ (omega arith) c.put_upper-middle.ensures c.put_lower.ensures)
 
 pub shape_of-out : goal.shape_of-out
 shape_of-out c = omega arith

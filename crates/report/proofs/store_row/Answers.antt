@@ -12,4 +12,4 @@ bounds-report-at-3 c =
     rw (length-set (set a.report.now a.at (get_or a.t3 0 0)) (a.at + 1) (get_or a.t3 1 0), length-set a.report.now a.at (get_or a.t3 0 0)) (omega (arith, c.requires))
 
 pub returns : goal.returns
-returns c = row_put _ _ c.args.t3 (row-held c.args.t3 _ c.well-formed.1.1.0).long c.requires
+returns c = row_put _ _ c.args.t3 (row-held c.args.t3 _ c.well_formed.1.1.0).long c.requires

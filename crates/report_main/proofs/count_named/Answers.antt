@@ -5,6 +5,7 @@ use Rattle.rules.specs.Report.{sums_of}
 use Rattle.report.specs.View.{report_view}
 use Rattle.report_main.specs.Files.{Counting, counting-first, counted-all}
 use Rattle.report_main.proofs.count_named.Goals as goal
+use Rattle.report_main.proofs.count_named.Goals.{After-count_fed-more}
 
 pub loop-turns-init : goal.loop-turns-init
 loop-turns-init c =
@@ -36,16 +37,16 @@ count_fed-more-requires c =
     (omega (arith, c.feed-fed.ensures.on.few, l.inv.1), l.inv.2)
 
 -- with the line that ended, if one did
-next : (c : goal.After-count_fed-more) → Counting c.feed-fed.result.next.left (report_view (sums_of []) c.args.counts.now) (report_view c.count_fed-more.result c.count_fed-more.new.1.1.1.1.0)
+next : (c : After-count_fed-more) → Counting c.feed-fed.result.next.left (report_view (sums_of []) c.args.counts.now) (report_view c.count_fed-more.result c.count_fed-more.new.1.1.1.1.0)
 next c = c.count_fed-more.ensures _ _ _ _ c.feed-fed.ensures.on c.loop-turns.inv.0
 
 pub returns-then-state-eq0 : goal.returns-then-state-eq0
-returns-then-state-eq0 c = counted-all _ _ _ (next c.before.before.before.before.before.before.before)
+returns-then-state-eq0 c = counted-all _ _ _ (next (goal.at.returns-then-state-eq0 c).After-count_fed-more)
 
 pub loop-turns-preserved : goal.loop-turns-preserved
 loop-turns-preserved c =
     let l = c.loop-turns in
-    (next c.before.before.before.before.before.before.before, omega (arith, l.inv.1), omega (arith, l.inv.2), c.feed-fed.ensures.on.few.1, c.refill-w.ensures.1, omega (arith, l.inv.5), omega (arith, l.inv.6))
+    (next (goal.at.loop-turns-preserved c).After-count_fed-more, omega (arith, l.inv.1), omega (arith, l.inv.2), c.feed-fed.ensures.on.few.1, c.refill-w.ensures.1, omega (arith, l.inv.5), omega (arith, l.inv.6))
 
 pub returns : goal.returns
 returns c = counted-all _ _ _ c.loop-turns.invariant.0
@@ -57,40 +58,40 @@ pub refill-w-requires : goal.refill-w-requires
 refill-w-requires c = c.loop-turns.invariant.4
 
 pub shape_of-piece-then-end-eq0 : goal.shape_of-piece-then-end-eq0
-shape_of-piece-then-end-eq0 c = omega (arith, c.loop-turns.inv, c.pre)
+shape_of-piece-then-end-eq0 c = omega (arith, c.loop-turns.inv, c.requires)
 
 pub shape_of-line-then-end-eq0 : goal.shape_of-line-then-end-eq0
-shape_of-line-then-end-eq0 c = omega (arith, c.loop-turns.inv, c.pre)
+shape_of-line-then-end-eq0 c = omega (arith, c.loop-turns.inv, c.requires)
 
 pub shape_of-img-then-end-eq0 : goal.shape_of-img-then-end-eq0
-shape_of-img-then-end-eq0 c = omega (arith, c.loop-turns.inv, c.pre)
+shape_of-img-then-end-eq0 c = omega (arith, c.loop-turns.inv, c.requires)
 
 pub shape_of-counts-then-end-eq0 : goal.shape_of-counts-then-end-eq0
-shape_of-counts-then-end-eq0 c = omega (arith, c.loop-turns.inv, c.pre)
+shape_of-counts-then-end-eq0 c = omega (arith, c.loop-turns.inv, c.requires)
 
 pub shape_of-piece-then-state-eq0 : goal.shape_of-piece-then-state-eq0
-shape_of-piece-then-state-eq0 c = omega (arith, c.loop-turns.inv, c.pre, c.refill-w.kept.1.0)
+shape_of-piece-then-state-eq0 c = omega (arith, c.loop-turns.inv, c.requires, c.refill-w.kept.1.0)
 
 pub shape_of-line-then-state-eq0 : goal.shape_of-line-then-state-eq0
-shape_of-line-then-state-eq0 c = omega (arith, c.loop-turns.inv, c.pre)
+shape_of-line-then-state-eq0 c = omega (arith, c.loop-turns.inv, c.requires)
 
 pub shape_of-img-then-state-eq0 : goal.shape_of-img-then-state-eq0
-shape_of-img-then-state-eq0 c = omega (arith, c.loop-turns.inv, c.pre)
+shape_of-img-then-state-eq0 c = omega (arith, c.loop-turns.inv, c.requires)
 
 pub shape_of-counts-then-state-eq0 : goal.shape_of-counts-then-state-eq0
-shape_of-counts-then-state-eq0 c = omega (arith, c.loop-turns.inv, c.pre)
+shape_of-counts-then-state-eq0 c = omega (arith, c.loop-turns.inv, c.requires)
 
 pub loop-turns-smaller : goal.loop-turns-smaller
 loop-turns-smaller c = omega arith
 
 pub shape_of-piece : goal.shape_of-piece
-shape_of-piece c = omega (arith, c.loop-turns.invariant, c.pre)
+shape_of-piece c = omega (arith, c.loop-turns.invariant, c.requires)
 
 pub shape_of-line : goal.shape_of-line
-shape_of-line c = omega (arith, c.loop-turns.invariant, c.pre)
+shape_of-line c = omega (arith, c.loop-turns.invariant, c.requires)
 
 pub shape_of-img : goal.shape_of-img
-shape_of-img c = omega (arith, c.loop-turns.invariant, c.pre)
+shape_of-img c = omega (arith, c.loop-turns.invariant, c.requires)
 
 pub shape_of-counts : goal.shape_of-counts
-shape_of-counts c = omega (arith, c.loop-turns.invariant, c.pre)
+shape_of-counts c = omega (arith, c.loop-turns.invariant, c.requires)

@@ -5,22 +5,23 @@ use lib.ListN.{length}
 use Rattle.report_main.specs.Files.{bytes-failed, bytes-in, bytes-say}
 use borrow.Author.Rules.{rules}
 use Rattle.report_main.proofs.read_file.Goals as goal
+use Rattle.report_main.proofs.read_file.Goals.{In-Bytes-2}
 
 -- what was read fits
-more : (c : goal.In-Bytes-2) → c.loop-at.at + c.in-Bytes.n ≤ length c.read_more.new.1.0
+more : (c : In-Bytes-2) → c.loop-at.at + c.in-Bytes.n ≤ length c.read_more.new.1.0
 more c = bytes-say _ _ _ c.read_more.ensures _ c.in-Bytes.is
 
 pub returns-then-n-eq0 : goal.returns-then-n-eq0
-returns-then-n-eq0 c = bytes-in 0 _ _ (omega (arith, more c.before.before))
+returns-then-n-eq0 c = bytes-in 0 _ _ (omega (arith, more (goal.at.returns-then-n-eq0 c).In-Bytes-2))
 
 pub overflow_add-at : goal.overflow_add-at
-overflow_add-at c = let m = more c.before.before in search rules
+overflow_add-at c = let m = more (goal.at.overflow_add-at c).In-Bytes-2 in search rules
 
 pub loop-at-smaller : goal.loop-at-smaller
-loop-at-smaller c = omega (arith, more c.before.before, c.if-n-eq0.false, c.loop-at-test.true)
+loop-at-smaller c = omega (arith, more (goal.at.loop-at-smaller c).In-Bytes-2, c.if-n-eq0.false, c.loop-at-test.true)
 
 pub loop-at-preserved : goal.loop-at-preserved
-loop-at-preserved c = (more c.before.before, omega (arith, c.loop-at.invariant.1))
+loop-at-preserved c = (more (goal.at.loop-at-preserved c).In-Bytes-2, omega (arith, c.loop-at.invariant.1))
 
 pub returns : goal.returns
 returns c = bytes-in 0 _ _ (omega (arith, c.loop-at.invariant.0))

@@ -1,6 +1,5 @@
 use mathlib.Core.Path.{◌≡◌, sym, ap, ◌∙◌}
 use mathlib.Core.Bool.{true}
-use borrow.Author.Tests.{not-true, not-false}
 use Rattle.rules.specs.Lists.{first}
 use Rattle.rules.specs.SuperBlock.{writable}
 use Rattle.rules.specs.Names.{path_good}
@@ -12,21 +11,23 @@ use Rattle.paths.specs.View.{hit-nothing, hit-entry, hit-of}
 use Rattle.judging.specs.View.{opened-super, opened-walks, opened-entries}
 use Rattle.retyping.specs.Planned.{RetypePlanned}
 use Rattle.restoring.proofs.plan_entry.Goals as goal
+use Rattle.restoring.proofs.plan_entry.Goals.{Else-not-is_writable, Else-not-path_good}
 
 -- what each test that was passed says
-current : (c : goal.Else-not-is_writable) → writable (geometry_view c.args.g) ≡ true
-current c = sym c.is_writable.ensures ∙ not-false _ c.if-not-is_writable.false
+current : (c : Else-not-is_writable) → writable (geometry_view c.args.g) ≡ true
+current c = sym c.is_writable.ensures ∙ c.if-not-is_writable.false
 
-good : (c : goal.Else-not-path_good) → path_good c.args.path.now ≡ true
-good c = sym c.path_good.ensures ∙ not-false _ c.if-not-path_good.false
+good : (c : Else-not-path_good) → path_good c.args.path.now ≡ true
+good c = sym c.path_good.ensures ∙ c.if-not-path_good.false
 
 pub returns-then-not-is_writable : goal.returns-then-not-is_writable
 unfolding RetypePlanned
-returns-then-not-is_writable c = restore-later _ _ c.requires (sym c.is_writable.ensures ∙ not-true _ c.if-not-is_writable.true) _
+returns-then-not-is_writable c = restore-later _ _ c.requires (sym c.is_writable.ensures ∙ c.if-not-is_writable.true) _
 
 pub returns-then-not-path_good : goal.returns-then-not-path_good
 unfolding RetypePlanned
-returns-then-not-path_good c z = restore-name _ _ c.requires (current c.before.before) _ z (sym c.path_good.ensures ∙ not-true _ c.if-not-path_good.true)
+returns-then-not-path_good c z =
+    restore-name _ _ c.requires (current (goal.at.returns-then-not-path_good c).Else-not-is_writable) _ z (sym c.path_good.ensures ∙ c.if-not-path_good.true)
 
 pub first_slot-from-requires : goal.first_slot-from-requires
 first_slot-from-requires c = (opened-super _ _ c.requires, omega arith)
@@ -42,8 +43,8 @@ plan_first-requires c =
     let told = hit-of _ _ c.first_deleted.ensures.place _ _ c.in-Entry.is in (
       record {
         opened = c.requires;
-        may = current c.before.before.before.before.before.before.before.before.before.before.before;
-        named = good c.before.before.before.before.before.before.before.before.before;
+        may = current (goal.at.plan_first-requires c).Else-not-is_writable;
+        named = good (goal.at.plan_first-requires c).Else-not-path_good;
         items = e.0;
         inside = e.1;
         hit = hit-entry _ _ _ _ c.first_deleted.ensures.hits _ _ c.in-Entry.is;
@@ -55,6 +56,6 @@ plan_first-requires c =
 pub returns-in-Nothing : goal.returns-in-Nothing
 unfolding RetypePlanned
 returns-in-Nothing c z =
-    restore-none _ _ c.requires (current c.before.before.before.before.before.before.before.before.before) _ z (good c.before.before.before.before.before.before.before)
+    restore-none _ _ c.requires (current (goal.at.returns-in-Nothing c).Else-not-is_writable) _ z (good (goal.at.returns-in-Nothing c).Else-not-path_good)
     (ap (first _) (sym (opened-entries _ _ c.requires c.first_slot-from.result c.first_slot-from.ensures.0))
     ∙ hit-nothing _ _ _ _ c.first_deleted.ensures.hits c.in-Nothing.is)

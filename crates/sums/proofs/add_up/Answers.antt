@@ -5,6 +5,7 @@ use lib.ListN.{length, length-set}
 use lib.Seq.{get_or-set_same}
 use Rattle.sums.specs.Summed.{adds-first, adds-more}
 use Rattle.sums.proofs.add_up.Goals as goal
+use Rattle.sums.proofs.add_up.Goals.{After-slot_sum}
 
 pub loop-i-init : goal.loop-i-init
 loop-i-init c =
@@ -17,7 +18,7 @@ pub slot_sum-requires : goal.slot_sum-requires
 slot_sum-requires c = (omega (arith, c.requires.0), c.requires.1)
 
 -- the next place
-room : (c : goal.After-slot_sum) → c.loop-i.k + 1 < length c.loop-i.sums
+room : (c : After-slot_sum) → c.loop-i.k + 1 < length c.loop-i.sums
 room c =
     let l = c.loop-i in
     omega (arith, l.invariant.1, l.invariant.2, length-set c.args.sums.now c.args.first 0, c.requires.2)

@@ -1,26 +1,27 @@
 use mathlib.Core.Path.{◌≡◌, sym, ap, ◌∙◌}
 use mathlib.Core.Bool.{true}
 use lib.ListN.{length}
-use borrow.Author.Tests.{not-true, not-false}
 use Rattle.rules.specs.SuperBlock.{length_good}
 use Rattle.rules.specs.Refusals.Laws.{length-bounds, super-bad-length, super-bad-magic, super-of}
 use Rattle.super_block.specs.View.{magic_view}
 use Rattle.super_block.proofs.judge_super.Goals as goal
+use Rattle.super_block.proofs.judge_super.Goals.{Else-not-length_good}
 
 pub returns-then-not-length_good : goal.returns-then-not-length_good
-returns-then-not-length_good c = sym (super-bad-length _ (sym c.length_good.ensures ∙ not-true _ c.if-not-length_good.true))
+returns-then-not-length_good c = sym (super-bad-length _ (sym c.length_good.ensures ∙ c.if-not-length_good.true))
 
-length-is : (c : goal.Else-not-length_good) → length_good (length c.args.img.now) ≡ true
-length-is c = sym c.length_good.ensures ∙ not-false _ c.if-not-length_good.false
+length-is : (c : Else-not-length_good) → length_good (length c.args.img.now) ≡ true
+length-is c = sym c.length_good.ensures ∙ c.if-not-length_good.false
 
 pub find_magic-requires : goal.find_magic-requires
 find_magic-requires c = (length-bounds _ (length-is c)).0
 
 pub judge_fields-requires : goal.judge_fields-requires
-judge_fields-requires c = (length-bounds _ (length-is c.before.before.before.before)).0
+judge_fields-requires c = (length-bounds _ (length-is (goal.at.judge_fields-requires c).Else-not-length_good)).0
 
 pub returns-in-Nothing : goal.returns-in-Nothing
-returns-in-Nothing c = sym (super-bad-magic _ (length-is c.before.before.before) (sym c.find_magic.ensures ∙ ap magic_view c.in-Nothing.is))
+returns-in-Nothing c = sym (super-bad-magic _ (length-is (goal.at.returns-in-Nothing c).Else-not-length_good) (sym c.find_magic.ensures ∙ ap magic_view c.in-Nothing.is))
 
 pub returns-in-Of : goal.returns-in-Of
-returns-in-Of c = c.judge_fields.ensures ∙ sym (super-of _ (length-is c.before.before.before.before.before) _ (sym c.find_magic.ensures ∙ ap magic_view c.in-Of.is))
+returns-in-Of c =
+    c.judge_fields.ensures ∙ sym (super-of _ (length-is (goal.at.returns-in-Of c).Else-not-length_good) _ (sym c.find_magic.ensures ∙ ap magic_view c.in-Of.is))

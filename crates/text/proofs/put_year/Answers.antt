@@ -11,44 +11,45 @@ use Rattle.rules.specs.Dates.Text.{year-up, year-down}
 use Rattle.stamps.proofs.Signed.{is-neg, is_pos}
 use Rattle.text.specs.Wrote.{wrote-both}
 use Rattle.text.proofs.put_year.Goals as goal
+use Rattle.text.proofs.put_year.Goals.{After-distance-n, Else-year-lt0, Then-year-lt0}
 
 -- The sign says which text it is. Assumes nothing.
 pub distance-n-requires : goal.distance-n-requires
 distance-n-requires c = tt
 
-size : (c : goal.After-distance-n) → c.distance-n.result ≡ nat_abs c.args.year
+size : (c : After-distance-n) → c.distance-n.result ≡ nat_abs c.args.year
 size c = cc (to_z-of_z w64 c.args.year c.ranges.year)
 
-down : (c : goal.Then-year-lt0) → year_text c.args.year ≡ text "-" ++ widened 4 (decimal c.distance-n.result)
+down : (c : Then-year-lt0) → year_text c.args.year ≡ text "-" ++ widened 4 (decimal c.distance-n.result)
 down c =
     let (n, e, h) = is-neg c.args.year c.ranges.year c.if-year-lt0.true in
-    rw (size c.before, e) (year-down n)
+    rw (size (goal.at.Then-year-lt0 c).After-distance-n, e) (year-down n)
 
-up : (c : goal.Else-year-lt0) → year_text c.args.year ≡ widened 4 (decimal c.distance-n.result)
+up : (c : Else-year-lt0) → year_text c.args.year ≡ widened 4 (decimal c.distance-n.result)
 up c =
     let (n, e, h) = is_pos c.args.year c.ranges.year c.if-year-lt0.false in
-    rw (size c.before, e) (year-up n)
+    rw (size (goal.at.Else-year-lt0 c).After-distance-n, e) (year-up n)
 
 pub put_byte-end-requires : goal.put_byte-end-requires
-put_byte-end-requires c = omega (arith, ap length (down c.before))
+put_byte-end-requires c = omega (arith, ap length (down (goal.at.put_byte-end-requires c).Then-year-lt0))
 
 pub put_number-requires : goal.put_number-requires
-put_number-requires c = omega (arith, ap length (down c.before.before.before.before.before))
+put_number-requires c = omega (arith, ap length (down (goal.at.put_number-requires c).Then-year-lt0))
 
 pub shape_of-out-then-year-lt0 : goal.shape_of-out-then-year-lt0
 shape_of-out-then-year-lt0 c = omega arith
 
 pub returns-then-year-lt0 : goal.returns-then-year-lt0
 returns-then-year-lt0 c =
-    let d = down c.before.before.before.before.before.before.before.before in
+    let d = down (goal.at.returns-then-year-lt0 c).Then-year-lt0 in
     rw d
     (wrote-both _ _ _ _ _ _ (text "-") _ (omega (arith, ap length d)) c.put_byte-end.ensures c.put_number.ensures)
 
 pub put_number-requires-2 : goal.put_number-requires-2
-put_number-requires-2 c = omega (arith, ap length (up c.before))
+put_number-requires-2 c = omega (arith, ap length (up (goal.at.put_number-requires-2 c).Else-year-lt0))
 
 pub shape_of-out : goal.shape_of-out
 shape_of-out c = omega arith
 
 pub returns : goal.returns
-returns c = rw (up c.before.before.before.before) c.put_number-2.ensures
+returns c = rw (up (goal.at.returns c).Else-year-lt0) c.put_number-2.ensures
