@@ -17,6 +17,6 @@ returns c =
     let x = c.index-start.result in
     let y = c.index-end.result in
     let m : length (mid_of x (y - x) s) ≡ y - x = mid_len x y s (omega arith) in
-    let p : call.new.0 ≡ padded a.src.now (y - x) = rw m at call.ensures in
-    let n : length call.new.0 ≡ y - x = ap length p ∙ length-padded a.src.now (y - x) (omega arith) in
-    lent_back s x y call.new.0 (omega arith) (omega arith) n ∙ ap (splice s x) p ∙ rw (c.index-start.ensures, c.index-end.ensures)
+    let p : call.new.dst ≡ padded a.src.now (y - x) = rw m at call.ensures in
+    let n : length call.new.dst ≡ y - x = ap length p ∙ length-padded a.src.now (y - x) (omega arith) in
+    lent_back s x y call.new.dst (omega arith) (omega arith) n ∙ ap (splice s x) p ∙ rw (c.index-start.ensures, c.index-end.ensures)

@@ -10,4 +10,4 @@ pub returns : goal.returns
 unfolding numbers_of head_view
 returns c =
     let f = c.from_bits in
-    (refl, λ s. rw (to_z-of_z w64 f.result (record { sfits = f.type-inv }), f.ensures, end-given s c.args.h, c.number-3.ensures, c.number-2.ensures, c.number.ensures))
+    (refl, λ s. rw (to_z-of_z w64 f.result (record { sfits = f.type_inv }), f.ensures, end-given s c.args.h, c.number-3.ensures, c.number-2.ensures, c.number.ensures))

@@ -9,4 +9,4 @@ unfolding volume_numbers
 returns c =
     let f = c.from_bits in
     let h = c.from_bits-2 in
-    (refl, rw (to_z-of_z w64 f.result (record { sfits = f.type-inv }), f.ensures, to_z-of_z w64 h.result (record { sfits = h.type-inv }), h.ensures, c.volume_stamp.ensures, c.block_length.ensures.0, c.version.ensures, c.requires.2))
+    (refl, rw (to_z-of_z w64 f.result (record { sfits = f.type_inv }), f.ensures, to_z-of_z w64 h.result (record { sfits = h.type_inv }), h.ensures, c.volume_stamp.ensures, c.block_length.ensures.0, c.version.ensures, c.requires.2))

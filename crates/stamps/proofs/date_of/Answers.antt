@@ -15,11 +15,11 @@ overflow_add-z c = shift-asks c.args.days c.ranges.days c.requires
 pub date_at-requires : goal.date_at-requires
 date_at-requires c =
     let f = c.floor_div in
-    rw (to_z-of_z w64 f.result (record { sfits = f.type-inv }), f.ensures, c.floor_mod.ensures, shift_is c.args.days c.ranges.days c.requires)
+    rw (to_z-of_z w64 f.result (record { sfits = f.type_inv }), f.ensures, c.floor_mod.ensures, shift_is c.args.days c.ranges.days c.requires)
     (cycles-small c.args.days 719468 c.requires (omega arith), mod_below (c.args.days +ℤ pos 719468) 146097 (omega arith))
 
 pub returns : goal.returns
 unfolding quick_date
 returns c =
     let f = c.floor_div in
-    cc (quick-date c.args.days, to_z-of_z w64 f.result (record { sfits = f.type-inv }), shift_is c.args.days c.ranges.days c.requires)
+    cc (quick-date c.args.days, to_z-of_z w64 f.result (record { sfits = f.type_inv }), shift_is c.args.days c.ranges.days c.requires)

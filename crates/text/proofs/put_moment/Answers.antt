@@ -22,7 +22,7 @@ moment_of-m-requires c = tt
 moment-is : (c : After-moment_of-m) → moment_of (signed_of c.args.stamp) ≡ moment_view c.moment_of-m.result
 moment-is c =
     let b = c.from_bits in
-    ap moment_of (sym (to_z-of_z w64 b.result (record { sfits = b.type-inv }) ∙ b.ensures)) ∙ sym c.moment_of-m.ensures.0
+    ap moment_of (sym (to_z-of_z w64 b.result (record { sfits = b.type_inv }) ∙ b.ensures)) ∙ sym c.moment_of-m.ensures.0
 
 year-is : (c : After-moment_of-m) → to_z w64 (of_z w64 c.moment_of-m.result.date.year) ≡ c.moment_of-m.result.date.year
 year-is c = to_z-of_z w64 c.moment_of-m.result.date.year (record { sfits = omega (arith, c.moment_of-m.ensures.1.0.0) })
