@@ -24,8 +24,13 @@ class Function:
         self.x = x
         self.places = x["places"]
         self.new = x["places_by_name"]
-        self.index = {norm(p[0]): i for i, p in enumerate(self.places)}
-        self.parent = [self.index.get(norm(p[1])) if p[1] else None for p in self.places]
+        # within an arm's own steps the place behind them serves
+        self.index = {}
+        for i, p in enumerate(self.places):
+            m = re.match(r"(In-.*)-\d+$", self.new[i])
+            self.index[norm(p[0])] = self.new.index(m.group(1)) if m and m.group(1) in self.new else i
+        raw = {norm(p[0]): i for i, p in enumerate(self.places)}
+        self.parent = [raw.get(norm(p[1])) if p[1] else None for p in self.places]
 
     def ancestors(self, i):
         while i is not None:
@@ -238,10 +243,42 @@ class Turner:
             return parts
         k = self.fn.step_place(place, first)
         rest = parts[1:]
+        if k is not None and rest[:1] == ["new"] and self.places_callee(k):
+            rest = ["new", *self.new_of(self.places_callee(k), rest[1:])]
         clauses = self.fn.x["clauses"][k] if k is not None and k < len(self.fn.x["clauses"]) else None
         if rest and rest[0] == "ensures" and clauses and len(clauses["fields"]) > 1:
             rest = ["ensures"] + self.clause(clauses["fields"], rest[1:])
         return [got, *rest]
+
+    def places_callee(self, k):
+        return self.fn.places[k][3]
+
+    def new_of(self, callee, path):
+        """`.1.1.0` of what a call left of its arguments is the third that is no `&`."""
+        crate, *_, name = callee.split("::")
+        owner = callee.split("::")[-2]
+        for folder, _, files in os.walk(f"crates/{crate}/src"):
+            for f in files:
+                text = open(os.path.join(folder, f), encoding="utf-8").read()
+                m = re.search(rf"fn {re.escape(name)}\(([^{{]*?)\)(?:\s*->|\s*\n|\s*\{{)", text, re.S)
+                if not m:
+                    continue
+                names = []
+                for one in split_top(m.group(1)):
+                    if ":" not in one:
+                        names.append("self")
+                        continue
+                    n, ty = one.split(":", 1)
+                    if ty.strip().startswith("&") and not re.match(r"&\s*mut\b", ty.strip()):
+                        continue
+                    names.append(n.replace("mut ", "").strip())
+                k, p = 0, list(path)
+                while p and p[0] == "1" and k < len(names):
+                    k += 1
+                    p = p[1:]
+                if p and p[0] == "0" and k < len(names):
+                    return [names[k], *p[1:]]
+        return path
 
     def clause(self, fields, path):
         k, p = 0, list(path)
@@ -292,6 +329,16 @@ class Turner:
             if path[0] in env and len(path) >= 2:
                 step = path[1]
                 k = next((i for i, p in enumerate(self.fn.places) if p[2][1] == step), None)
+                callee = self.fn.places[k][3] if k is not None else None
+                if callee and len(path) == 2:
+
+                    def renew(mm, callee=callee):
+                        p = mm.group(0).split(".")
+                        if p[0] == name and len(p) > 2 and p[1] == "new":
+                            return ".".join([name, "new", *self.new_of(callee, p[2:])])
+                        return mm.group(0)
+
+                    text = text[: m.end()] + TOK.sub(renew, text[m.end() :])
                 cl = self.fn.x["clauses"][k] if k is not None and k < len(self.fn.x["clauses"]) else None
                 if cl and len(cl["fields"]) > 1:
 
@@ -603,7 +650,7 @@ def prune(text):
             for n in split_top(m.group(2)):
                 shown = n.split(" as ")[-1].strip()
                 parts = [p for p in shown.split("◌") if p]
-                if shown in plain or ("◌" in shown and all(any(p in w for w in words) for p in parts)):
+                if shown in plain or (shown == "[]" and "[]" in body) or ("◌" in shown and all(any(p in w for w in words) for p in parts)):
                     keep.append(n)
             if keep:
                 out.append(f"use {m.group(1)}.{{{', '.join(keep)}}}")

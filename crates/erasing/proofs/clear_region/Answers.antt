@@ -1,3 +1,4 @@
+use mathlib.Core.List.{[]}
 use native.Mathlib.Omega.{arith}
 use Rattle.erasing.specs.Delete.{blocks-in, blocks-cleared}
 use Rattle.erasing.proofs.clear_region.Goals as goal

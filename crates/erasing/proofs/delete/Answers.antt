@@ -5,13 +5,13 @@ use Rattle.rules.specs.Writing.{wiped, delete_of}
 use Rattle.contracts.specs.Promises.{written_as}
 use Rattle.erasing.specs.Delete.{DeleteFound, plan-refused, plan-entry}
 use Rattle.erasing.proofs.delete.Goals as goal
-use Rattle.erasing.proofs.delete.Goals.{In-Entry-2}
+use Rattle.erasing.proofs.delete.Goals.{In-Entry}
 
-going : (c : In-Entry-2) → let a = c.args in DeleteFound a.img.now a.path.now c.in-Entry.g c.in-Entry.h
+going : (c : In-Entry) → let a = c.args in DeleteFound a.img.now a.path.now c.in-Entry.g c.in-Entry.h
 going c = plan-entry _ _ _ c.plan_delete.ensures _ _ c.in-Entry.is
 
 pub write_wiped-requires : goal.write_wiped-requires
-write_wiped-requires c = let p = going (goal.at.write_wiped-requires c).In-Entry-2 in (p.opened, p.room, p.region)
+write_wiped-requires c = let p = going (goal.at.write_wiped-requires c).In-Entry in (p.opened, p.room, p.region)
 
 pub returns-in-Refused : goal.returns-in-Refused
 unfolding delete_of
@@ -23,5 +23,5 @@ pub returns-in-Entry : goal.returns-in-Entry
 unfolding done delete_of
 returns-in-Entry c =
     let a = c.args in
-    let p = going (goal.at.returns-in-Entry c).In-Entry-2 in
+    let p = going (goal.at.returns-in-Entry c).In-Entry in
     ap (written_as 0) (c.write_wiped.ensures a.path.now p.lives) ∙ sym (p.outcome (wiped a.path.now (signed_of a.stamp)))

@@ -13,7 +13,7 @@ use Rattle.regions.specs.Bounds.{good-bounded}
 use Rattle.regions.specs.Gathering.{regions-unsound, regions-from}
 use Rattle.judging.specs.Keeping.{Keeps, keeps-good}
 use Rattle.judging.proofs.judge_index.Goals as goal
-use Rattle.judging.proofs.judge_index.Goals.{After-first_slot-from, After-paths_sound-paths, Else-not-index_sound, In-From-2}
+use Rattle.judging.proofs.judge_index.Goals.{After-first_slot-from, After-paths_sound-paths, Else-not-index_sound, In-From}
 
 -- the passes that were passed
 index_is : (c : Else-not-index_sound) → let a = c.args in let g = geometry_view a.g in
@@ -32,9 +32,9 @@ regions-are : (c : After-first_slot-from) (t : Bool) → let a = c.args in let g
     regions_sound g (entries_from a.img.now c.first_slot-from.result) ≡ t → regions_sound g (entries_of (items_of a.img.now g)) ≡ t
 regions-are c t e = sym (ap (λ is. regions_sound (geometry_view c.args.g) (entries_of is)) c.first_slot-from.ensures.0) ∙ e
 
-sound : (c : In-From-2) → let a = c.args in let g = geometry_view a.g in
+sound : (c : In-From) → let a = c.args in let g = geometry_view a.g in
     regions_sound g (entries_of (items_of a.img.now g)) ≡ true
-sound c = regions-are (goal.at.In-From-2 c).After-first_slot-from _ (regions-from _ _ _ _ _ c.judge_regions.ensures _ c.in-From.is).0
+sound c = regions-are (goal.at.In-From c).After-first_slot-from _ (regions-from _ _ _ _ _ c.judge_regions.ensures _ c.in-From.is).0
 
 pub first_slot-from-requires : goal.first_slot-from-requires
 first_slot-from-requires c = (good-judged _ _ c.requires.0, omega arith)
@@ -64,7 +64,7 @@ judge_regions-requires c =
 pub returns-then-not-paths : goal.returns-then-not-paths
 unfolding Keeps
 returns-then-not-paths c =
-    judge-index _ c.requires.0 ∙ index-bad-paths _ _ _ (index_is (goal.at.returns-then-not-paths c).Else-not-index_sound) (sound (goal.at.returns-then-not-paths c).In-From-2) (paths-are (goal.at.returns-then-not-paths c).After-paths_sound-paths ∙ c.if-not-paths.true)
+    judge-index _ c.requires.0 ∙ index-bad-paths _ _ _ (index_is (goal.at.returns-then-not-paths c).Else-not-index_sound) (sound (goal.at.returns-then-not-paths c).In-From) (paths-are (goal.at.returns-then-not-paths c).After-paths_sound-paths ∙ c.if-not-paths.true)
 
 pub returns-in-Unsound : goal.returns-in-Unsound
 unfolding Keeps
@@ -73,5 +73,5 @@ returns-in-Unsound c =
 
 pub returns-else-not-paths : goal.returns-else-not-paths
 returns-else-not-paths c =
-    keeps-good _ _ _ (judge-index _ c.requires.0 ∙ index-good _ _ _ (index_is (goal.at.returns-else-not-paths c).Else-not-index_sound) (sound (goal.at.returns-else-not-paths c).In-From-2) (paths-are (goal.at.returns-else-not-paths c).After-paths_sound-paths ∙ c.if-not-paths.false)) c.first_slot-from.result c.first_slot-from.ensures.0
+    keeps-good _ _ _ (judge-index _ c.requires.0 ∙ index-good _ _ _ (index_is (goal.at.returns-else-not-paths c).Else-not-index_sound) (sound (goal.at.returns-else-not-paths c).In-From) (paths-are (goal.at.returns-else-not-paths c).After-paths_sound-paths ∙ c.if-not-paths.false)) c.first_slot-from.result c.first_slot-from.ensures.0
     _ _ (regions-from _ _ _ _ _ c.judge_regions.ensures _ c.in-From.is).1

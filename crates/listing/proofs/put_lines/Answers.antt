@@ -8,7 +8,7 @@ use Rattle.index.specs.Turns.{told-end, told-found}
 use Rattle.text.specs.Wrote.{left-none, left-next}
 use Rattle.listing.specs.Lines.{entry_text, live_text, text-end, text-next}
 use Rattle.listing.proofs.put_lines.Goals as goal
-use Rattle.listing.proofs.put_lines.Goals.{In-Found-2}
+use Rattle.listing.proofs.put_lines.Goals.{In-Found}
 
 pub loop-h-init : goal.loop-h-init
 loop-h-init c = let p = c.requires in (p.0, (refl, refl, refl), p.2)
@@ -19,21 +19,21 @@ next_entry-requires c = (c.loop-h.invariant.0, c.loop-h.invariant.2)
 pub returns-in-End : goal.returns-in-End
 returns-in-End c = left-none _ _ _ _ _ _ (text-end _ (told-end _ _ _ c.next_entry.ensures c.in-End.is)) c.loop-h.invariant.1
 
-step : (c : In-Found-2) → Step c.args.img.now c.loop-h.c c.in-Found.h c.in-Found.rest
+step : (c : In-Found) → Step c.args.img.now c.loop-h.c c.in-Found.h c.in-Found.rest
 step c = told-found _ _ _ c.next_entry.ensures _ _ c.in-Found.is
 
 -- what is left, one entry further
-rest : (c : In-Found-2) → let s = c.args.img.now in
+rest : (c : In-Found) → let s = c.args.img.now in
     length (live_text (entries_from s c.loop-h.c)) ≡ length (entry_text (head_view s c.in-Found.h)) + length (live_text (entries_from s c.in-Found.rest))
 rest c = ap length (text-next _ _ _ (step c).entries) ∙ length-append (entry_text _) _
 
 pub put_entry-end-requires : goal.put_entry-end-requires
 put_entry-end-requires c =
-    ((step (goal.at.put_entry-end-requires c).In-Found-2).head, omega (arith, rest (goal.at.put_entry-end-requires c).In-Found-2, c.loop-h.invariant.1, c.requires.1))
+    ((step (goal.at.put_entry-end-requires c).In-Found).head, omega (arith, rest (goal.at.put_entry-end-requires c).In-Found, c.loop-h.invariant.1, c.requires.1))
 
 pub loop-h-smaller : goal.loop-h-smaller
-loop-h-smaller c = (step (goal.at.loop-h-smaller c).In-Found-2).less
+loop-h-smaller c = (step (goal.at.loop-h-smaller c).In-Found).less
 
 pub loop-h-preserved : goal.loop-h-preserved
 loop-h-preserved c =
-    ((step (goal.at.loop-h-preserved c).In-Found-2).walks, left-next _ _ _ _ _ _ _ _ _ _ (text-next _ _ _ (step (goal.at.loop-h-preserved c).In-Found-2).entries) (omega (arith, c.loop-h.invariant.1, c.requires.1)) (omega arith) c.loop-h.invariant.1 c.put_entry-end.ensures, sums-step _ _ c.loop-h.c c.loop-h.invariant.2 _ _ (step (goal.at.loop-h-preserved c).In-Found-2))
+    ((step (goal.at.loop-h-preserved c).In-Found).walks, left-next _ _ _ _ _ _ _ _ _ _ (text-next _ _ _ (step (goal.at.loop-h-preserved c).In-Found).entries) (omega (arith, c.loop-h.invariant.1, c.requires.1)) (omega arith) c.loop-h.invariant.1 c.put_entry-end.ensures, sums-step _ _ c.loop-h.c c.loop-h.invariant.2 _ _ (step (goal.at.loop-h-preserved c).In-Found))

@@ -2,14 +2,14 @@ use native.Mathlib.Omega.{arith}
 use Rattle.index.specs.Steps.{no-more}
 use Rattle.paths.specs.Searching.{Strikes, goes_on, goes_at, ends_on, going-first, going_end}
 use Rattle.paths.proofs.next_hit.Goals as goal
-use Rattle.paths.proofs.next_hit.Goals.{In-At-2}
+use Rattle.paths.proofs.next_hit.Goals.{In-At}
 
-strikes : (c : In-At-2) → let a = c.args in
+strikes : (c : In-At) → let a = c.args in
     Strikes a.img.now a.what a.path.now a.from 0 c.in-At.e c.in-At.rest c.in-At.looked
 strikes c = goes_at _ _ _ _ _ _ c.pass_over.ensures.goes _ _ _ c.in-At.is
 
 pub head_at-h-requires : goal.head_at-h-requires
-head_at-h-requires c = let e = (strikes (goal.at.head_at-h-requires c).In-At-2).spot in omega (arith, e.fits, e.low)
+head_at-h-requires c = let e = (strikes (goal.at.head_at-h-requires c).In-At).spot in omega (arith, e.fits, e.low)
 
 pub returns-in-On : goal.returns-in-On
 returns-in-On c =
@@ -18,4 +18,4 @@ returns-in-On c =
 
 pub returns-in-At : goal.returns-in-At
 returns-in-At c =
-    (strikes (goal.at.returns-in-At c).In-At-2).comes _ (going-first _ _ _ _ c.requires.0) _ c.head_at-h.ensures.result_value c.head_at-h.ensures.place.0 c.head_at-h.ensures.place.1
+    (strikes (goal.at.returns-in-At c).In-At).comes _ (going-first _ _ _ _ c.requires.0) _ c.head_at-h.ensures.result_value c.head_at-h.ensures.place.0 c.head_at-h.ensures.place.1

@@ -7,7 +7,7 @@ use Rattle.index.specs.Turns.{stops_end, stops_at}
 use Rattle.paths.specs.View.{hits-none, hits-read, no-hit-of, some-hit-of}
 use Rattle.paths.specs.Entries.{only_end, only-stop, only_next}
 use Rattle.paths.proofs.next_live.Goals as goal
-use Rattle.paths.proofs.next_live.Goals.{In-At-2}
+use Rattle.paths.proofs.next_live.Goals.{In-At}
 
 pub returns-in-End : goal.returns-in-End
 returns-in-End c =
@@ -16,15 +16,15 @@ returns-in-End c =
       place = no-hit-of _;
     }
 
-step : (c : In-At-2) → Arrives c.args.img.now c.loop-e.at c.in-At.e c.in-At.rest
+step : (c : In-At) → Arrives c.args.img.now c.loop-e.at c.in-At.e c.in-At.rest
 step c = stops_at _ _ _ c.next_spot.ensures _ _ c.in-At.is
 
 pub head_at-h-requires : goal.head_at-h-requires
-head_at-h-requires c = let e = (step (goal.at.head_at-h-requires c).In-At-2).spot in omega (arith, e.fits, e.low)
+head_at-h-requires c = let e = (step (goal.at.head_at-h-requires c).In-At).spot in omega (arith, e.fits, e.low)
 
 pub returns-then-is_from : goal.returns-then-is_from
 returns-then-is_from c =
-    let r = step (goal.at.returns-then-is_from c).In-At-2 in
+    let r = step (goal.at.returns-then-is_from c).In-At in
     let v = c.head_at-h.ensures in
     let same = r.view ∙ sym v.result_value in
     let i = c.loop-e.invariant in
@@ -35,7 +35,7 @@ returns-then-is_from c =
 
 pub loop-e-preserved : goal.loop-e-preserved
 loop-e-preserved c =
-    let r = step (goal.at.loop-e-preserved c).In-At-2 in
+    let r = step (goal.at.loop-e-preserved c).In-At in
     let i = c.loop-e.invariant in
     (r.walks, only_next _ _ _ _ r.entries (sym (c.is_from.ensures _) ∙ c.if-is_from.false) ∙ i.1, behind-on _ _ _ i.2 (behind-arrives _ _ _ _ r), sums-arrives _ _ _ i.3 _ _ r)
 
@@ -46,4 +46,4 @@ pub next_spot-requires : goal.next_spot-requires
 next_spot-requires c = (c.loop-e.invariant.0, c.loop-e.invariant.3)
 
 pub loop-e-smaller : goal.loop-e-smaller
-loop-e-smaller c = (step (goal.at.loop-e-smaller c).In-At-2).less
+loop-e-smaller c = (step (goal.at.loop-e-smaller c).In-At).less

@@ -11,13 +11,13 @@ use Rattle.paths.specs.View.{searched-nothing, searched-entry}
 use Rattle.judging.specs.View.{volume_of}
 use Rattle.reading.specs.Found.{file-in, read_found}
 use Rattle.reading.proofs.read_entry.Goals as goal
-use Rattle.reading.proofs.read_entry.Goals.{Else-not-path_good, In-Entry-2}
+use Rattle.reading.proofs.read_entry.Goals.{Else-not-path_good, In-Entry}
 
 good : (c : Else-not-path_good) → path_good c.args.path.now ≡ true
 good c = sym c.path_good.ensures ∙ c.if-not-path_good.false
 
 -- what was found
-looked : (c : In-Entry-2) → let a = c.args in
+looked : (c : In-Entry) → let a = c.args in
     lookup a.path.now (entries (volume_of a.img.now (geometry_view a.g))) ≡ some (head_view a.img.now c.in-Entry.h)
 looked c = (searched-entry _ _ _ c.look_up.ensures.searched _ c.in-Entry.is).0
 
@@ -30,7 +30,7 @@ look_up-requires c = c.requires
 pub read_file-requires : goal.read_file-requires
 read_file-requires c =
     let p = c.requires in
-    (p, file-in _ _ p _ _ (looked (goal.at.read_file-requires c).In-Entry-2))
+    (p, file-in _ _ p _ _ (looked (goal.at.read_file-requires c).In-Entry))
 
 pub returns-in-Nothing : goal.returns-in-Nothing
 returns-in-Nothing c =
@@ -38,4 +38,4 @@ returns-in-Nothing c =
 
 pub returns-in-Entry : goal.returns-in-Entry
 returns-in-Entry c =
-    c.read_file.ensures ∙ sym (read_found _ _ c.requires _ _ _ (good (goal.at.returns-in-Entry c).Else-not-path_good) (looked (goal.at.returns-in-Entry c).In-Entry-2))
+    c.read_file.ensures ∙ sym (read_found _ _ c.requires _ _ _ (good (goal.at.returns-in-Entry c).Else-not-path_good) (looked (goal.at.returns-in-Entry c).In-Entry))

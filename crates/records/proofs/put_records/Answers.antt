@@ -18,7 +18,7 @@ use Rattle.paths.specs.View.{HitAt, hit-none, hit-entry, hit-of}
 use Rattle.laws.proofs.Records.Packed.{record_length, chosen-run}
 use Rattle.records.specs.View.{Putting, putting-first, putting-none, putting-full, putting-room, putting-ahead, putting-next}
 use Rattle.records.proofs.put_records.Goals as goal
-use Rattle.records.proofs.put_records.Goals.{After-after-next, After-put_record-end, Else-not-fits, In-Entry-2}
+use Rattle.records.proofs.put_records.Goals.{After-after-next, After-put_record-end, Else-not-fits, In-Entry}
 
 pub loop-h-init : goal.loop-h-init
 loop-h-init c =
@@ -34,33 +34,33 @@ returns-in-Nothing c =
     putting-none _ _ _ _ _ _ _ _ _ c.loop-h.invariant.3 _ e.0 e.1 e.2 e.3 (hit-none _ _ _ _ c.next_live.ensures.hits c.in-Nothing.is)
 
 -- the entry that was met
-met : (c : In-Entry-2) → let a = c.args in
+met : (c : In-Entry) → let a = c.args in
     HitAt a.img.now (live_from a.slot.0) (entries_from a.img.now c.loop-h.c) c.in-Entry.h c.in-Entry.rest
 met c = hit-entry _ _ _ _ c.next_live.ensures.hits _ _ c.in-Entry.is
 
-run : (c : In-Entry-2) → run_type c.in-Entry.h.kind ≡ true
+run : (c : In-Entry) → run_type c.in-Entry.h.kind ≡ true
 unfolding head_view
 run c = let a = c.args in
     chosen-run _ _ (head_view a.img.now c.in-Entry.h) _ (met c).chosen
 
-told : (c : In-Entry-2) → let d = c.loop-h.c in (c.in-Entry.h.edition ≡ d.edition) × Behind d c.in-Entry.rest
+told : (c : In-Entry) → let d = c.loop-h.c in (c.in-Entry.h.edition ≡ d.edition) × Behind d c.in-Entry.rest
 told c = hit-of _ _ c.next_live.ensures.place _ _ c.in-Entry.is
 
 -- the records so far
-put : (c : In-Entry-2) → let a = c.args in
+put : (c : In-Entry) → let a = c.args in
     Putting a.img.now a.from a.slot.0 a.out.now c.loop-h.out c.loop-h.c c.loop-h.count c.loop-h.end c.loop-h.next.0
 put c = c.loop-h.invariant.3
 
 pub overflow_sub-room : goal.overflow_sub-room
-overflow_sub-room c = (put (goal.at.overflow_sub-room c).In-Entry-2).inside
+overflow_sub-room c = (put c).inside
 
 pub fits-requires : goal.fits-requires
-fits-requires c = ((met (goal.at.fits-requires c).In-Entry-2).head, run (goal.at.fits-requires c).In-Entry-2)
+fits-requires c = ((met c).head, run c)
 
 pub returns-then-not-fits : goal.returns-then-not-fits
 returns-then-not-fits c =
     let e = c.part_put.ensures in
-    putting-full _ _ _ _ _ _ _ _ _ (put (goal.at.returns-then-not-fits c).In-Entry-2) _ _ (met (goal.at.returns-then-not-fits c).In-Entry-2).chosen _ e.0 e.1 e.2 e.3 (sym c.fits2.ensures ∙ c.if-not-fits.true)
+    putting-full _ _ _ _ _ _ _ _ _ (put (goal.at.returns-then-not-fits c).In-Entry) _ _ (met (goal.at.returns-then-not-fits c).In-Entry).chosen _ e.0 e.1 e.2 e.3 (sym c.fits2.ensures ∙ c.if-not-fits.true)
 
 -- the next record fits
 room : (c : Else-not-fits) → leb (record_length (head_view c.args.img.now c.in-Entry.h)) (length c.args.out.now - c.loop-h.end) ≡ true
@@ -68,35 +68,35 @@ room c = sym c.fits2.ensures ∙ c.if-not-fits.false
 
 pub put_record-end-requires : goal.put_record-end-requires
 put_record-end-requires c =
-    ((met (goal.at.put_record-end-requires c).In-Entry-2).head, run (goal.at.put_record-end-requires c).In-Entry-2, putting-room _ _ _ _ _ _ _ _ _ (put (goal.at.put_record-end-requires c).In-Entry-2) _ c.in-Entry.rest (met (goal.at.put_record-end-requires c).In-Entry-2).chosen (room (goal.at.put_record-end-requires c).Else-not-fits))
+    ((met (goal.at.put_record-end-requires c).In-Entry).head, run (goal.at.put_record-end-requires c).In-Entry, putting-room _ _ _ _ _ _ _ _ _ (put (goal.at.put_record-end-requires c).In-Entry) _ c.in-Entry.rest (met (goal.at.put_record-end-requires c).In-Entry).chosen (room (goal.at.put_record-end-requires c).Else-not-fits))
 
 pub after-next-requires : goal.after-next-requires
-after-next-requires c = omega (arith, (met (goal.at.after-next-requires c).In-Entry-2).passed, (met (goal.at.after-next-requires c).In-Entry-2).walks.inside.numbers)
+after-next-requires c = omega (arith, (met (goal.at.after-next-requires c).In-Entry).passed, (met (goal.at.after-next-requires c).In-Entry).walks.inside.numbers)
 
 -- a record was written, of the walk's edition
 wrote : (c : After-put_record-end) → let a = c.args in let e = head_view a.img.now c.in-Entry.h in
-    Wrote c.loop-h.out c.loop-h.end (record_bytes (numbers_of (edition_view a.from.edition) e) e.path) c.put_record-end.new.1.1.0 c.put_record-end.result
+    Wrote c.loop-h.out c.loop-h.end (record_bytes (numbers_of (edition_view a.from.edition) e) e.path) c.put_record-end.new.at c.put_record-end.result
 wrote c =
     let e = head_view c.args.img.now c.in-Entry.h in
-    subst (λ (ed : Edition). Wrote c.loop-h.out c.loop-h.end (record_bytes (numbers_of ed e) e.path) c.put_record-end.new.1.1.0 c.put_record-end.result)
-    (ap edition_view ((told (goal.at.After-put_record-end c).In-Entry-2).0 ∙ c.loop-h.invariant.2.edition)) c.put_record-end.ensures
+    subst (λ (ed : Edition). Wrote c.loop-h.out c.loop-h.end (record_bytes (numbers_of ed e) e.path) c.put_record-end.new.at c.put_record-end.result)
+    (ap edition_view ((told (goal.at.After-put_record-end c).In-Entry).0 ∙ c.loop-h.invariant.2.edition)) c.put_record-end.ensures
 
 -- one record further
 further : (c : After-after-next) → let a = c.args in
-    Putting a.img.now a.from a.slot.0 a.out.now c.put_record-end.new.1.1.0 c.in-Entry.rest (c.loop-h.count + 1) c.put_record-end.result (c.in-Entry.h.slot.0 + 1)
+    Putting a.img.now a.from a.slot.0 a.out.now c.put_record-end.new.at c.in-Entry.rest (c.loop-h.count + 1) c.put_record-end.result (c.in-Entry.h.slot.0 + 1)
 unfolding head_view
 further c =
-    putting-next _ _ _ _ _ _ _ _ _ (put (goal.at.After-after-next c).In-Entry-2) _ _ (met (goal.at.After-after-next c).In-Entry-2).chosen (room (goal.at.After-after-next c).Else-not-fits) _ _ (omega arith) (wrote (goal.at.After-after-next c).After-put_record-end)
+    putting-next _ _ _ _ _ _ _ _ _ (put (goal.at.After-after-next c).In-Entry) _ _ (met (goal.at.After-after-next c).In-Entry).chosen (room (goal.at.After-after-next c).Else-not-fits) _ _ (omega arith) (wrote (goal.at.After-after-next c).After-put_record-end)
 
 pub overflow_add-count : goal.overflow_add-count
 overflow_add-count c = record { fits = omega (arith, (further c).few, (further c).inside) }
 
 pub loop-h-smaller : goal.loop-h-smaller
 loop-h-smaller c =
-    let l = putting-ahead _ _ _ _ _ _ _ _ _ (put (goal.at.loop-h-smaller c).In-Entry-2) _ c.in-Entry.rest (met (goal.at.loop-h-smaller c).In-Entry-2).chosen (room (goal.at.loop-h-smaller c).Else-not-fits) _ _ (wrote (goal.at.loop-h-smaller c).After-put_record-end) in
+    let l = putting-ahead _ _ _ _ _ _ _ _ _ (put (goal.at.loop-h-smaller c).In-Entry) _ c.in-Entry.rest (met (goal.at.loop-h-smaller c).In-Entry).chosen (room (goal.at.loop-h-smaller c).Else-not-fits) _ _ (wrote (goal.at.loop-h-smaller c).After-put_record-end) in
     omega (arith, l, (further c).inside)
 
 pub loop-h-preserved : goal.loop-h-preserved
 loop-h-preserved c =
     let i = c.loop-h.invariant in
-    ((met (goal.at.loop-h-preserved c).In-Entry-2).walks, sums-behind _ _ _ i.1 _ (told (goal.at.loop-h-preserved c).In-Entry-2).1, behind-on _ _ _ i.2 (told (goal.at.loop-h-preserved c).In-Entry-2).1, rw c.after-next.ensures (further c), omega arith)
+    ((met (goal.at.loop-h-preserved c).In-Entry).walks, sums-behind _ _ _ i.1 _ (told (goal.at.loop-h-preserved c).In-Entry).1, behind-on _ _ _ i.2 (told (goal.at.loop-h-preserved c).In-Entry).1, rw c.after-next.ensures (further c), omega arith)

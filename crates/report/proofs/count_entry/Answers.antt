@@ -1,4 +1,4 @@
-use Rattle.std.proofs.Common.{ℕ, ◌-◌, ◌∷◌, ap, ◌∙◌, ap₂}
+use Rattle.std.proofs.Common.{ℕ, ◌-◌, [], ◌∷◌, ap, ◌∙◌, ap₂}
 use Rattle.rules.specs.Regions.{blocks_of}
 use Rattle.laws.proofs.Report.Table.{counted_at}
 use Rattle.slots.specs.View.{head_view}

@@ -1,4 +1,5 @@
 use mathlib.Core.Path.{refl, sym}
+use mathlib.Core.List.{[]}
 use native.Mathlib.Omega.{arith}
 use lib.Seq.{length-take-le}
 use Rattle.rules.specs.Report.{sums_of}
@@ -29,7 +30,7 @@ slice_bounds-feed-end-in-loop-turns c = sym (length-take-le _ _ c.refill-w.ensur
 pub feed-fed-requires : goal.feed-fed-requires
 feed-fed-requires c =
     let l = c.loop-turns in
-    (l.inv.1, omega (arith, c.refill-w.ensures, length-take-le c.refill-w.result.end c.refill-w.new.1.0 c.refill-w.ensures.1), l.inv.3)
+    (l.inv.1, omega (arith, c.refill-w.ensures, length-take-le c.refill-w.result.end c.refill-w.new.piece c.refill-w.ensures.1), l.inv.3)
 
 pub count_fed-more-requires : goal.count_fed-more-requires
 count_fed-more-requires c =

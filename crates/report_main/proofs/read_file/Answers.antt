@@ -5,23 +5,23 @@ use lib.ListN.{length}
 use Rattle.report_main.specs.Files.{bytes-failed, bytes-in, bytes-say}
 use borrow.Author.Rules.{rules}
 use Rattle.report_main.proofs.read_file.Goals as goal
-use Rattle.report_main.proofs.read_file.Goals.{In-Bytes-2}
+use Rattle.report_main.proofs.read_file.Goals.{In-Bytes}
 
 -- what was read fits
-more : (c : In-Bytes-2) → c.loop-at.at + c.in-Bytes.n ≤ length c.read_more.new.1.0
+more : (c : In-Bytes) → c.loop-at.at + c.in-Bytes.n ≤ length c.read_more.new.img
 more c = bytes-say _ _ _ c.read_more.ensures _ c.in-Bytes.is
 
 pub returns-then-n-eq0 : goal.returns-then-n-eq0
-returns-then-n-eq0 c = bytes-in 0 _ _ (omega (arith, more (goal.at.returns-then-n-eq0 c).In-Bytes-2))
+returns-then-n-eq0 c = bytes-in 0 _ _ (omega (arith, more (goal.at.returns-then-n-eq0 c).In-Bytes))
 
 pub overflow_add-at : goal.overflow_add-at
-overflow_add-at c = let m = more (goal.at.overflow_add-at c).In-Bytes-2 in search rules
+overflow_add-at c = let m = more (goal.at.overflow_add-at c).In-Bytes in search rules
 
 pub loop-at-smaller : goal.loop-at-smaller
-loop-at-smaller c = omega (arith, more (goal.at.loop-at-smaller c).In-Bytes-2, c.if-n-eq0.false, c.loop-at-test.true)
+loop-at-smaller c = omega (arith, more (goal.at.loop-at-smaller c).In-Bytes, c.if-n-eq0.false, c.loop-at-test.true)
 
 pub loop-at-preserved : goal.loop-at-preserved
-loop-at-preserved c = (more (goal.at.loop-at-preserved c).In-Bytes-2, omega (arith, c.loop-at.invariant.1))
+loop-at-preserved c = (more (goal.at.loop-at-preserved c).In-Bytes, omega (arith, c.loop-at.invariant.1))
 
 pub returns : goal.returns
 returns c = bytes-in 0 _ _ (omega (arith, c.loop-at.invariant.0))

@@ -1,4 +1,5 @@
 use mathlib.Core.Path.{refl, sym, ◌∙◌}
+use mathlib.Core.List.{[]}
 use Rattle.rules.specs.Fields.Laws.{splice-cons, splice-nil}
 use Rattle.text.proofs.put_byte.Goals as goal
 

@@ -15,6 +15,6 @@ returns c =
     let src = a.src.now in
     let end = a.at + length src in
     let m : length (mid_of a.at (end - a.at) s) ≡ end - a.at = mid_len a.at end s (omega arith) in
-    let y : call.new.0 ≡ src = call.ensures ∙ splice_all (mid_of a.at (end - a.at) s) src (omega arith) in
-    let n : length call.new.0 ≡ end - a.at = ap length y ∙ omega arith in
-    (lent_back s a.at end call.new.0 (omega arith) (omega arith) n ∙ ap (splice s a.at) y, refl)
+    let y : call.new.dst ≡ src = call.ensures ∙ splice_all (mid_of a.at (end - a.at) s) src (omega arith) in
+    let n : length call.new.dst ≡ end - a.at = ap length y ∙ omega arith in
+    (lent_back s a.at end call.new.dst (omega arith) (omega arith) n ∙ ap (splice s a.at) y, refl)

@@ -10,7 +10,7 @@ use Rattle.text.proofs.put_date.Goals.{After-put_year-y}
 
 -- Three writings are one. Assumes nothing.
 -- how much of the room the year takes
-year-wrote : (c : After-put_year-y) → Wrote c.args.out.now c.args.at (year_text c.args.year) c.put_year-y.new.0 c.put_year-y.result × (c.put_year-y.result ≤ c.args.at + 14)
+year-wrote : (c : After-put_year-y) → Wrote c.args.out.now c.args.at (year_text c.args.year) c.put_year-y.new.out c.put_year-y.result × (c.put_year-y.result ≤ c.args.at + 14)
 year-wrote c =
     let w = rw (to_z-of_z w64 c.args.year c.ranges.year) at c.put_year-y.ensures in
     (w, omega (arith, length-year_text c.args.year c.requires.1))

@@ -7,7 +7,7 @@ use Rattle.undoing.proofs.Calls.{not-deleted, undone}
 use Rattle.undoing.proofs.delete_undone.Goals as goal
 use Rattle.undoing.proofs.delete_undone.Goals.{After-sfs_delete_keep-refusal}
 
-deletes : (c : After-sfs_delete_keep-refusal) → DeletesKeeping c.args.image.now c.args.path.now c.args.stamp c.sfs_delete_keep-refusal.result c.sfs_delete_keep-refusal.new.0
+deletes : (c : After-sfs_delete_keep-refusal) → DeletesKeeping c.args.image.now c.args.path.now c.args.stamp c.sfs_delete_keep-refusal.result c.sfs_delete_keep-refusal.new.image
 deletes c = c.sfs_delete_keep-refusal.ensures ∙ ap (delete_keep_of c.args.image.now c.args.path.now) (to_z-of_z w64 c.args.stamp c.fits.stamp)
 
 pub returns-then-refusal-ne0 : goal.returns-then-refusal-ne0
