@@ -254,7 +254,7 @@ class Turner:
         return self.fn.places[k][3]
 
     def new_of(self, callee, path):
-        """`.1.1.0` of what a call left of its arguments is the third that is no `&`."""
+        """`.1.1.0` of what a call left of its arguments is the third argument."""
         crate, *_, name = callee.split("::")
         owner = callee.split("::")[-2]
         for folder, _, files in os.walk(f"crates/{crate}/src"):
@@ -269,8 +269,6 @@ class Turner:
                         names.append("self")
                         continue
                     n, ty = one.split(":", 1)
-                    if ty.strip().startswith("&") and not re.match(r"&\s*mut\b", ty.strip()):
-                        continue
                     names.append(n.replace("mut ", "").strip())
                 k, p = 0, list(path)
                 while p and p[0] == "1" and k < len(names):

@@ -75,15 +75,15 @@ after-next-requires c = omega (arith, (met (goal.at.after-next-requires c).In-En
 
 -- a record was written, of the walk's edition
 wrote : (c : After-put_record-end) → let a = c.args in let e = head_view a.img.now c.in-Entry.h in
-    Wrote c.loop-h.out c.loop-h.end (record_bytes (numbers_of (edition_view a.from.edition) e) e.path) c.put_record-end.new.at c.put_record-end.result
+    Wrote c.loop-h.out c.loop-h.end (record_bytes (numbers_of (edition_view a.from.edition) e) e.path) c.put_record-end.new.out c.put_record-end.result
 wrote c =
     let e = head_view c.args.img.now c.in-Entry.h in
-    subst (λ (ed : Edition). Wrote c.loop-h.out c.loop-h.end (record_bytes (numbers_of ed e) e.path) c.put_record-end.new.at c.put_record-end.result)
+    subst (λ (ed : Edition). Wrote c.loop-h.out c.loop-h.end (record_bytes (numbers_of ed e) e.path) c.put_record-end.new.out c.put_record-end.result)
     (ap edition_view ((told (goal.at.After-put_record-end c).In-Entry).0 ∙ c.loop-h.invariant.2.edition)) c.put_record-end.ensures
 
 -- one record further
 further : (c : After-after-next) → let a = c.args in
-    Putting a.img.now a.from a.slot.0 a.out.now c.put_record-end.new.at c.in-Entry.rest (c.loop-h.count + 1) c.put_record-end.result (c.in-Entry.h.slot.0 + 1)
+    Putting a.img.now a.from a.slot.0 a.out.now c.put_record-end.new.out c.in-Entry.rest (c.loop-h.count + 1) c.put_record-end.result (c.in-Entry.h.slot.0 + 1)
 unfolding head_view
 further c =
     putting-next _ _ _ _ _ _ _ _ _ (put (goal.at.After-after-next c).In-Entry) _ _ (met (goal.at.After-after-next c).In-Entry).chosen (room (goal.at.After-after-next c).Else-not-fits) _ _ (omega arith) (wrote (goal.at.After-after-next c).After-put_record-end)

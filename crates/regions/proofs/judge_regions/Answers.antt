@@ -12,7 +12,7 @@ use Rattle.regions.proofs.judge_regions.Goals as goal
 use Rattle.regions.proofs.judge_regions.Goals.{In-From}
 
 -- what was gathered
-gathered : (c : In-From) → let a = c.args in let k = c.gather.new.1.1.1.1.0 in
+gathered : (c : In-From) → let a = c.args in let k = c.gather.new.keys in
     (all (region_good (geometry_view a.g)) (entries_from a.img.now a.from) ≡ true)
     × (c.in-From.i ≤ length k) × (drop c.in-From.i k ≡ region_keys (entries_from a.img.now a.from))
 gathered c = gathers-from _ _ _ _ _ c.gather.ensures _ c.in-From.is

@@ -18,7 +18,7 @@ unfolding part report_in
 returns c =
     let img = c.args.img.now in
     let ns = c.args.report.now in
-    let cs : List ℕ = c.add_judged-table.new.1.1.1.0 in
+    let cs : List ℕ = c.add_judged-table.new.counts in
     let nine : length cs ≡ 9 = omega (arith, mid_len 18 27 ns c.if-report-lt-NUMBERS.false) in
     let same : report_view c.add_judged-table.result cs ≡ with_image img (report_in ns) =
     c.add_judged-table.ensures ∙ ap (λ (t : Table). with_image img (report_view t (mid_of 18 9 ns))) c.table_in-before.ensures in

@@ -8,7 +8,7 @@ use Rattle.report_main.proofs.count_file.Goals as goal
 use Rattle.report_main.proofs.count_file.Goals.{In-Bytes}
 
 -- what was read is in the buffer
-got : (c : In-Bytes) → c.in-Bytes.n ≤ length c.open_and_read.new.1.0
+got : (c : In-Bytes) → c.in-Bytes.n ≤ length c.open_and_read.new.img
 got c = omega (arith, bytes-say 0 _ _ c.open_and_read.ensures _ c.in-Bytes.is)
 
 pub returns-then-not-is_name : goal.returns-then-not-is_name

@@ -38,7 +38,7 @@ count_fed-more-requires c =
     (omega (arith, c.feed-fed.ensures.on.few, l.inv.1), l.inv.2)
 
 -- with the line that ended, if one did
-next : (c : After-count_fed-more) → Counting c.feed-fed.result.next.left (report_view (sums_of []) c.args.counts.now) (report_view c.count_fed-more.result c.count_fed-more.new.1.1.1.1.0)
+next : (c : After-count_fed-more) → Counting c.feed-fed.result.next.left (report_view (sums_of []) c.args.counts.now) (report_view c.count_fed-more.result c.count_fed-more.new.counts)
 next c = c.count_fed-more.ensures _ _ _ _ c.feed-fed.ensures.on c.loop-turns.inv.0
 
 pub returns-then-state-eq0 : goal.returns-then-state-eq0
