@@ -22,8 +22,8 @@ VERSION = $(shell awk '/^.define SFS_API / { print $$3 + 0 }' include/sfs.h)
 all: $(LIBRARY) $(COMMAND)
 
 # The proofs take minutes, several at a time, so that they are run only where a source is newer. Without the kit a library that is there is taken.
-$(LIBRARY): crates.txt $(shell find crates -name '*.rt' -o -name '*.antt')
-	@if command -v $(RT) > /dev/null; then export RT_JOBS=$${RT_JOBS:-3} && $(RT) check sfs && $(RT) staticlib sfs && touch $@; \
+$(LIBRARY): crates.txt $(shell find crates -name out -prune -o '(' -name '*.rt' -o -name '*.antt' ')' -print)
+	@if command -v $(RT) > /dev/null; then RT=$(RT) tools/archive sfs; \
 	elif [ -e $@ ]; then echo "no $(RT): $@ is older than its sources, and taken as it is" >&2; \
 	else echo "no $(RT): it comes with the Rattle kit, and $@ is made by it" >&2; exit 1; fi
 
@@ -53,6 +53,6 @@ uninstall:
 
 # All that rt and make write is there, the proofs too.
 clean:
-	rm -rf target
+	rm -rf target crates/*/out
 
 .PHONY: all test install uninstall clean

@@ -1,4 +1,4 @@
-//! Links the static libraries that `rt staticlib sfs` and `rt staticlib region_table` wrote. With `SFS_BEFORE` set to the static library of
+//! Links the static libraries that `tools/archive sfs region_table` wrote. With `SFS_BEFORE` set to the static library of
 //! another commit (an absolute path), that one is linked beside it under names of its own, so that the benchmark times both in one run. It
 //! must have every call that is declared here, or the linker names the one that it lacks, and the same `SFS_API`, or the benchmark refuses
 //! it: the declarations of this commit are used for both. Times of an older library come from the benchmark of its own commit.

@@ -243,8 +243,8 @@ class Turner:
             return parts
         k = self.fn.step_place(place, first)
         rest = parts[1:]
-        if k is not None and rest[:1] == ["new"] and self.places_callee(k):
-            rest = ["new", *self.new_of(self.places_callee(k), rest[1:])]
+        if k is not None and rest[:1] in (["new"], ["auto"], ["kept"]) and self.places_callee(k):
+            rest = [rest[0], *self.new_of(self.places_callee(k), rest[1:])]
         clauses = self.fn.x["clauses"][k] if k is not None and k < len(self.fn.x["clauses"]) else None
         if rest and rest[0] == "ensures" and clauses and len(clauses["fields"]) > 1:
             rest = ["ensures"] + self.clause(clauses["fields"], rest[1:])
@@ -551,11 +551,11 @@ class Turner:
                     if params and len(params) > 1 and params[1] == "κs":
                         params.pop(1)
                     rhs = " " + rhs.strip()
-                    if rhs.strip() == "search rules":
+                    if rhs.strip() == "search rules" and not unf:
                         skip = True
                         continue
                     rhs = self.expression(rhs, {params[0]: at.get(new)} if params else {}, new)
-                    if rhs.strip() == "search rules":
+                    if rhs.strip() == "search rules" and not unf:
                         skip = True
                         continue
                     key = n if n in [k for k in x["asked"]] else next((o for o, w in needs if w == new), None)

@@ -1,6 +1,6 @@
 //! `include/sfs.h` against the exports of the Rattle source, and against the declarations that `compare` links with: every function's
 //! arguments and answer and every struct's fields, in name, order, width and sign. The engines for shared blocks are no part of the library:
-//! their declarations are held against their own crate.
+//! their declarations are held against their own crates.
 //!
 //! Each side is read into a line of text for each declaration, in the words of Rust, and the lines are compared. A word that a reader
 //! does not know stays as it is, and so is a difference.
@@ -95,7 +95,7 @@ fn c_declared(text: &str) -> (&str, &str) {
 /// The functions marked for C, and the structs that they answer with.
 fn rattle(text: &str) -> Result<Interface, String> {
     let text = code(text);
-    let exports: Vec<&str> = text.split("#[no_mangle] extern \"C\" fn ").skip(1).collect();
+    let exports: Vec<&str> = text.split("#[unsafe(no_mangle)] extern \"C\" fn ").skip(1).collect();
     if exports.len() != text.matches("no_mangle").count() {
         return Err("an export that is no function".to_string());
     }
@@ -109,9 +109,10 @@ fn rust(text: &str) -> Result<Interface, String> {
     interface(&block.split("fn ").skip(1).collect::<Vec<_>>(), &structs(&text)?)
 }
 
-/// Without comments; who may see a thing inside the source does not matter here.
+/// Without comments; who may see a thing inside the source does not matter here, nor what is derived of it.
 fn code(text: &str) -> String {
-    plain(text.lines().map(|line| line.split("//").next().unwrap_or_default()).collect()).replace("pub ", "")
+    let lines = text.lines().map(|line| line.split("//").next().unwrap_or_default());
+    plain(lines.filter(|line| !line.trim_start().starts_with("#[derive(")).collect()).replace("pub ", "")
 }
 
 /// The fields of every struct laid out as in C, by its name; a struct without names for its fields stands inside others alone.
@@ -173,16 +174,16 @@ fn path(of: &str) -> PathBuf {
     Path::new(env!("CARGO_MANIFEST_DIR")).join("..").join(of)
 }
 
-/// The crate whose exports are not the library's.
-const ENGINES: &str = "crates/region_table";
+/// The engines' crate, and that of their exports, which are not the library's.
+const ENGINES: [&str; 2] = ["crates/region_table", "crates/region_table_c"];
 
-/// Every Rattle file of the crates, wherever it stands, but those of the engines.
+/// Every Rattle file of the crates, wherever it stands, but those of the engines, and what `rt` makes of them in `out/`.
 fn rattle_files() -> io::Result<String> {
     let (mut folders, mut text) = (vec![path("crates")], String::new());
     while let Some(folder) = folders.pop() {
         for entry in fs::read_dir(folder)? {
             let path = entry?.path();
-            if path.ends_with(ENGINES) {
+            if path.ends_with("out") || ENGINES.iter().any(|engines| path.ends_with(engines)) {
                 continue;
             }
             if path.is_dir() {
@@ -214,7 +215,7 @@ fn header_is_what_compare_links() {
 
 #[test]
 fn engines_are_what_compare_links() {
-    let source = fs::read_to_string(path(ENGINES).join("src/lib.rt")).unwrap();
+    let source = ENGINES.map(|engines| fs::read_to_string(path(engines).join("src/lib.rt")).unwrap()).concat();
     let exports = rattle(&source).unwrap();
     assert!(exports.contains_key("regions_in_table") && exports.contains_key("sfs_table_answer"), "{exports:?}");
     let found = differences(&exports, &rust(&fs::read_to_string(path("compare/src/engines.rs")).unwrap()).unwrap());
@@ -229,9 +230,9 @@ const IN_C: &str = "#include <x.h>\nextern \"C\" {\n/* Kinds; */ enum kind { A =
     struct sfs_volume sfs_open(const uint8_t *image, size_t image_len,\n uint8_t *out, size_t out_len);\n
     uint32_t sfs_reclaim(uint8_t *image, size_t image_len, int64_t stamp);\n}\n";
 
-const IN_RATTLE: &str = "#[repr(C)]\npub struct Volume { // numbers\n pub refusal: u32, pub total: u64, pub data: u64, pub stamp: i64,\n}\n
-    #[no_mangle]\npub extern \"C\" fn sfs_open(image: &[u8], out: &mut [u8]) -> reading::Volume ensures { λ r. r } { open(image, out) }\n
-    #[no_mangle]\npub extern \"C\" fn sfs_reclaim(image: &mut [u8], stamp: i64) -> u32\n{ 0 }\npub fn other(n: u64) -> u64 { n }\n";
+const IN_RATTLE: &str = "#[repr(C)]\n#[derive(Clone, Copy)]\npub struct Volume { // numbers\n pub refusal: u32, pub total: u64, pub data: u64, pub stamp: i64,\n}\n
+    #[unsafe(no_mangle)]\npub extern \"C\" fn sfs_open(image: &[u8], out: &mut [u8]) -> reading::Volume ensures { Opens image.now result } { open(image, out) }\n
+    #[unsafe(no_mangle)]\npub extern \"C\" fn sfs_reclaim(image: &mut [u8], stamp: i64) -> u32\n{ 0 }\npub fn other(n: u64) -> u64 { n }\n";
 
 /// What is said of the small pair with a text of it replaced.
 fn said(old: &str, new: &str) -> String {
@@ -261,12 +262,12 @@ fn a_difference_is_found() {
         ("uint32_t sfs_reclaim(uint8_t *image, size_t image_len, int64_t stamp);", "", "header: nothing"),
         ("uint32_t sfs_reclaim(", "uint32_t sfs_more(void); uint32_t sfs_reclaim(", "source: nothing"),
         ("struct sfs_volume {", "struct sfs_more { int64_t n; }; struct sfs_volume {", "source: nothing"),
-        ("#[no_mangle]\npub extern \"C\" fn sfs_reclaim", "fn sfs_reclaim", "source: nothing"),
+        ("#[unsafe(no_mangle)]\npub extern \"C\" fn sfs_reclaim", "fn sfs_reclaim", "source: nothing"),
         ("image: &mut [u8], stamp: i64", "stamp: i64, image: &mut [u8]", "stamp: i64, image: *mut u8"),
         ("out: &mut [u8]", "out: &[u8]", "out: *const u8"),
         ("pub stamp: i64", "pub stamp: i64, pub more: u64", "more: u64"),
         ("#[repr(C)]", "", "Volume is not #[repr(C)]"),
-        ("pub fn other", "#[no_mangle]\npub static other", "an export that is no function"),
+        ("pub fn other", "#[unsafe(no_mangle)]\npub static other", "an export that is no function"),
         ("pub fn other", "#[repr(C)] struct Volume { n: u64 } pub fn other", "two structs Volume"),
     ] {
         assert!(said(old, new).contains(wanted), "{old} -> {new}: {}", said(old, new));

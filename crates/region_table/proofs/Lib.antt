@@ -1,3 +1,1 @@
-pub mod Lent
-pub mod Counting
-pub mod Walks
+pub mod Front

@@ -114,7 +114,7 @@ module _ (s : List ℕ) (g : Geometry) (keys : List ℕ) (places : ℕ) (super :
       inside low (regions-of-keys (entries_from s c) low (drop i keys) (keys-same s g l.bounded c good (drop i keys) (drop i keys) is same)) a e
 
 -- ---- FILLED: prepared, and laid into the table
-length_last : (n : ℕ) (keys : List ℕ) → n ≤ length keys → length (last_regions n keys) ≡ n
+pub length_last : (n : ℕ) (keys : List ℕ) → n ≤ length keys → length (last_regions n keys) ≡ n
 length_last n keys h =
     let e : length keys - (length keys - n) ≡ n = omega arith in
     length-map (drop (length keys - n) keys) key_extent ∙ length-drop (length keys - n) keys ∙ e

@@ -278,8 +278,7 @@ fn put_in_order(table: &mut [Region], n: usize)
 }
 
 // Whether no two regions of an image share a block, over a lent table: it then holds the regions in order.
-#[unsafe(no_mangle)]
-pub extern "C" fn regions_in_table(image: &[u8], table: &mut [Region]) -> TableAnswer
+pub fn regions_in_table(image: &[u8], table: &mut [Region]) -> TableAnswer
     ensures { tabled_view result (map extent_view table.new) ≡ table_of image.now (map extent_view table.old) }
 {
     let found = fill(image, table);
@@ -290,8 +289,7 @@ pub extern "C" fn regions_in_table(image: &[u8], table: &mut [Region]) -> TableA
 }
 
 // The same over a table of its own: whoever calls it needs to know of none.
-#[unsafe(no_mangle)]
-pub extern "C" fn regions_apart(image: &[u8]) -> u32
+pub fn regions_apart(image: &[u8]) -> u32
     ensures { result ≡ sharing_of image.now }
 {
     let none = Block::at(0);
@@ -316,8 +314,7 @@ fn apart_plainly(img: &[u8], g: Geometry) -> u32
     }
 }
 
-#[unsafe(no_mangle)]
-pub extern "C" fn regions_apart_plainly(image: &[u8]) -> u32
+pub fn regions_apart_plainly(image: &[u8]) -> u32
     ensures { result ≡ sharing_of image.now }
 {
     match super_block::judge_super(image) {

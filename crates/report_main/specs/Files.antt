@@ -1,5 +1,7 @@
 -- What came of reading a file, and the report: a line counts as one source, and the whole is the report on some list of at most 1,000.
-use Rattle.std.specs.Prelude.{ℕ, ◌+◌, ◌≤◌, ◌≡◌, refl, true, false, List, [], ◌∷◌, ◌++◌, length}
+use Rattle.std.specs.Prelude.{ℕ, ◌+◌, ◌<◌, ◌≤◌, ◌≡◌, refl, true, false, List, [], ◌∷◌, ◌++◌, length, take}
+use Rattle.std.specs.declared.option.Option.{Option}
+use Rattle.std.specs.Io.KnownBytes.{Consumes, IsAtEnd}
 use Rattle.std.proofs.Common.{sym, ap, ◌∙◌, arith, length-append}
 use Rattle.rules.specs.Lists.{only, sum}
 use Rattle.rules.specs.Lists.Laws.{clash}
@@ -11,22 +13,24 @@ use Rattle.report_main.specs.declared.Got.{Got}
 use Rattle.report_main.specs.declared.Got.TheVariants.{Failed, Bytes}
 
 -- ---- so many bytes are in the buffer, from a place on
-unfoldable pub BytesIn : ℕ → Got → List ℕ → Type 0
+abbrev pub BytesIn : ℕ → Got → List ℕ → Type 0
 BytesIn at Failed s = Unit {0}
 BytesIn at (Bytes n) s = at + n ≤ length s
 
-module _ (at : ℕ) (s : List ℕ) where
-  pub bytes-failed : BytesIn at Failed s
-  unfolding BytesIn
-  bytes-failed = tt
+-- ---- where a reader's bytes are known: those that it gave, since it had a left, are in the buffer up to where it was read
+abbrev pub ReadUpTo : Option (List ℕ) → Option (List ℕ) → ℕ → Got → List ℕ → Type 0
+ReadUpTo a b at Failed s = Unit {0}
+ReadUpTo a b at (Bytes n) s = Consumes a b (take (at + n) s)
 
-  pub bytes-in : (n : ℕ) → at + n ≤ length s → BytesIn at (Bytes n) s
-  unfolding BytesIn
-  bytes-in n h = h
+-- a read that gave none where there was room was at the end
+abbrev pub AtEndAfter : Option (List ℕ) → ℕ → Got → List ℕ → Type 0
+AtEndAfter b at Failed s = Unit {0}
+AtEndAfter b at (Bytes n) s = n ≡ 0 → at < length s → IsAtEnd b
 
-  pub bytes-say : (r : Got) → BytesIn at r s → (n : ℕ) → r ≡ Bytes n → at + n ≤ length s
-  unfolding BytesIn
-  bytes-say r f n e = rw e at f
+-- the first n bytes of a file are in the buffer, and it has no more where there was room
+abbrev pub FileRead : Option (List ℕ) → Option (List ℕ) → Got → List ℕ → Type 0
+FileRead a b Failed s = Unit {0}
+FileRead a b (Bytes n) s = Consumes a b (take n s) × (n < length s → IsAtEnd b)
 
 -- ---- one line: a source is counted, and what is no name is unread
 pub record CountedFile (line : List ℕ) (before after : Report) : Type 0 where

@@ -2,14 +2,21 @@
 
 #![tactic(auto)]
 
-ghost use Rattle.std.specs.Prelude.{◌≡◌, [], ℕ, ◌≤◌, length};
+ghost use Rattle.std.specs.Prelude.{◌≡◌, List, [], ℕ, ◌≤◌, length, take};
+ghost use Rattle.std.specs.declared.option.Option.{Option};
+ghost use Rattle.std.specs.Io.KnownBytes.{Consumes};
 ghost use Rattle.rules.specs.Report.{Report, sums_of};
 ghost use Rattle.lines.specs.Feeding.{GoneOn};
 ghost use Rattle.report.specs.View.{report_view};
-ghost use Rattle.report_main.specs.Files.{BytesIn, CountedFile, Counting, CountedAll};
+ghost use Rattle.report_main.specs.Files.{BytesIn, ReadUpTo, AtEndAfter, FileRead, CountedFile, Counting, CountedAll};
 
-use libc::{STDIN_FILENO, STDOUT_FILENO};
 use lines::{Fed, Lines};
+use std::fs;
+use std::io::{Read, Write};
+use std::rt::Files;
+
+// How many bytes of the input are read at once.
+const PIECE: usize = 65_536;
 
 // What came of reading a file.
 #[derive(Clone, Copy)]
@@ -26,25 +33,26 @@ struct Window {
 }
 
 // Reads once, from a place of img on.
-fn read_more(fd: i32, img: &mut [u8], at: usize) -> Got
+fn read_more<R: Read>(file: &mut R, img: &mut [u8], at: usize) -> Got
     requires { at ≤ length img.old }
-    ensures { BytesIn at result img.new }
+    ensures bound { BytesIn at result img.new }
+    ensures read { (a : Option (List ℕ)) → Consumes a (R.remaining file.old) (take at img.old) → ReadUpTo a (R.remaining file.new) at result img.new }
+    ensures end { AtEndAfter (R.remaining file.new) at result img.new }
 {
-    let part = &mut img[at..];
-    let got = libc::read(fd, part);
-    if got < 0 {
-        return Got::Failed;
+    match file.read(&mut img[at..]) {
+        Ok(n) => Got::Bytes(n),
+        Err(_) => Got::Failed,
     }
-    Got::Bytes(io::count(got, part))
 }
 
 // Reads a file to its end, or until img is full.
-fn read_file(fd: i32, img: &mut [u8]) -> Got
-    ensures { BytesIn 0 result img.new }
+fn read_file<R: Read>(file: &mut R, img: &mut [u8]) -> Got
+    ensures bound { BytesIn 0 result img.new }
+    ensures read { FileRead (R.remaining file.old) (R.remaining file.new) result img.new }
 {
     let mut at = 0;
     while at < img.len() {
-        match read_more(fd, img, at) {
+        match read_more(file, img, at) {
             Got::Failed => return Got::Failed,
             Got::Bytes(n) => {
                 if n == 0 {
@@ -57,20 +65,22 @@ fn read_file(fd: i32, img: &mut [u8]) -> Got
     Got::Bytes(at)
 }
 
-fn open_and_read(name: &[u8], img: &mut [u8]) -> Got
+// Only a name in UTF-8 can be opened.
+fn open_and_read<R: Files>(files: &R, name: &[u8], img: &mut [u8]) -> Got
     ensures { BytesIn 0 result img.new }
 {
-    let fd = os::open_read(name);
-    if fd < 0 {
+    let Ok(path) = str::from_utf8(name) else {
         return Got::Failed;
+    };
+    match fs::open(files, path) {
+        Ok(mut file) => read_file(&mut file, img),
+        Err(_) => Got::Failed,
     }
-    let got = read_file(fd, img);
-    libc::close(fd);
-    got
 }
 
 // The table with the image that a line names; a line that is no name and a file that cannot be read are counted.
-fn count_file(
+fn count_file<R: Files>(
+    files: &R,
     line: &[u8],
     img: &mut [u8],
     table: [[u64; 3]; 6],
@@ -83,7 +93,7 @@ fn count_file(
         report::count_one(counts, 0);
         return table;
     }
-    match open_and_read(line, img) {
+    match open_and_read(files, line, img) {
         Got::Failed => {
             report::count_one(counts, 0);
             table
@@ -92,21 +102,23 @@ fn count_file(
     }
 }
 
-// The next piece of the input where this one is used up; it ends at 0 where there is none.
-fn refill(w: Window, piece: &mut [u8]) -> Window
+// The next piece of the input where this one is used up; it ends at 0 where there is none. Where the input cannot be read further, it ends.
+fn refill<I: Read>(input: &mut I, w: Window, piece: &mut [u8]) -> Window
     requires { w.end ≤ length piece.old }
     ensures { (result.at ≤ result.end) × (result.end ≤ length piece.new) }
 {
     if w.at < w.end {
         return w;
     }
-    let got = libc::read(STDIN_FILENO, piece);
-    let end = io::count(got, piece);
-    Window { at: 0, end }
+    match input.read(piece) {
+        Ok(end) => Window { at: 0, end },
+        Err(_) => Window { at: 0, end: 0 },
+    }
 }
 
 // The table with the line that has ended, if one has.
-fn count_fed(
+fn count_fed<R: Files>(
+    files: &R,
     fed: Fed,
     line: &[u8],
     img: &mut [u8],
@@ -120,11 +132,12 @@ fn count_fed(
         return table;
     }
     let length = fed.length;
-    count_file(&line[..length], img, table, counts)
+    count_file(files, &line[..length], img, table, counts)
 }
 
 // What was read of a line when the input ended is the last one where it has bytes.
-fn count_last(
+fn count_last<R: Files>(
+    files: &R,
     state: Lines,
     line: &[u8],
     img: &mut [u8],
@@ -138,12 +151,14 @@ fn count_last(
         return table;
     }
     let length = state.length;
-    count_file(&line[..length], img, table, counts)
+    count_file(files, &line[..length], img, table, counts)
 }
 
 // The table of all images that are named, and the counts. A proved loop has to end, and nothing says that the input does: the turns are more than
 // any run has.
-fn count_named(
+fn count_named<I: Read, R: Files>(
+    input: &mut I,
+    files: &R,
     piece: &mut [u8],
     line: &mut [u8],
     img: &mut [u8],
@@ -158,13 +173,13 @@ fn count_named(
     let mut turns = u64::MAX;
     while 0 < turns {
         turns -= 1;
-        w = refill(w, piece);
+        w = refill(input, w, piece);
         let end = w.end;
         if end == 0 {
-            return count_last(state, line, img, table, counts);
+            return count_last(files, state, line, img, table, counts);
         }
         let fed = lines::feed(state, &piece[..end], w.at, line);
-        let more = count_fed(fed, line, img, table, counts);
+        let more = count_fed(files, fed, line, img, table, counts);
         table = more;
         state = fed.next;
         if state.left == 0 {
@@ -175,14 +190,22 @@ fn count_named(
     table
 }
 
-fn main() {
-    let mut piece = io::large_buffer();
+fn main(rt: HostRuntime) {
+    let mut piece = [0u8; PIECE];
     let mut line = [0u8; lines::KEPT];
     // One byte more than is taken, so that a longer file is seen.
     let mut img = [0u8; judging::LONGEST + 1];
     let mut counts = [0u64; report::COUNTS];
-    let table = count_named(&mut piece, &mut line, &mut img, &mut counts);
+    let table = count_named(
+        &mut rt.stdin(),
+        &rt,
+        &mut piece,
+        &mut line,
+        &mut img,
+        &mut counts,
+    );
     let mut out = [0u8; report::ROOM];
     let end = report::put_report(table, &counts, &mut out);
-    io::write_all(STDOUT_FILENO, &out[..end]);
+    // A report that cannot be written is not told of.
+    let _ = rt.stdout().write_all(&out[..end]);
 }

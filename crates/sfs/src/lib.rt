@@ -1,4 +1,4 @@
-// The calls for C: thin exports, documented in include/sfs.h; what each promises is named in crates/contracts/specs/Promises.antt.
+// The calls, thin: include/sfs.h documents them, crates/sfs_c exports them to C, and what each promises is named in crates/contracts/specs/Promises.antt.
 
 #![tactic(auto)]
 
@@ -10,15 +10,13 @@ use contracts::{Content, Entry, Listed, Records, Volume};
 // The number of the interface, raised whenever a struct, an argument or what a call does changes.
 const API: u32 = 2;
 
-#[unsafe(no_mangle)]
-pub extern "C" fn sfs_api() -> u32
+pub fn sfs_api() -> u32
     ensures { TellsApi result }
 {
     API
 }
 
-#[unsafe(no_mangle)]
-pub extern "C" fn sfs_format(
+pub fn sfs_format(
     image: &mut [u8],
     version: u64,
     bytes_per_block: u64,
@@ -38,78 +36,67 @@ pub extern "C" fn sfs_format(
     )
 }
 
-#[unsafe(no_mangle)]
-pub extern "C" fn sfs_open(image: &[u8], out: &mut [u8]) -> Volume
+pub fn sfs_open(image: &[u8], out: &mut [u8]) -> Volume
     ensures { OpensVolume image.now out.old result out.new }
 {
     reading::open(image, out)
 }
 
-#[unsafe(no_mangle)]
-pub extern "C" fn sfs_find(image: &[u8], path: &[u8]) -> Entry
+pub fn sfs_find(image: &[u8], path: &[u8]) -> Entry
     ensures { Finds image.now path.now result }
 {
     reading::find(image, path)
 }
 
-#[unsafe(no_mangle)]
-pub extern "C" fn sfs_list(image: &[u8], slot: u64, out: &mut [u8]) -> Listed
+pub fn sfs_list(image: &[u8], slot: u64, out: &mut [u8]) -> Listed
     ensures { Lists image.now slot out.old result out.new }
 {
     reading::list(image, slot, out)
 }
 
-#[unsafe(no_mangle)]
-pub extern "C" fn sfs_list_all(image: &[u8], slot: u64, out: &mut [u8]) -> Records
+pub fn sfs_list_all(image: &[u8], slot: u64, out: &mut [u8]) -> Records
     ensures { ListsAll image.now slot out.old result out.new }
 {
     records::list_all(image, slot, out)
 }
 
-#[unsafe(no_mangle)]
-pub extern "C" fn sfs_read(image: &[u8], path: &[u8], out: &mut [u8]) -> Content
+pub fn sfs_read(image: &[u8], path: &[u8], out: &mut [u8]) -> Content
     ensures { Reads image.now path.now out.old result out.new }
 {
     reading::read(image, path, out)
 }
 
-#[unsafe(no_mangle)]
-pub extern "C" fn sfs_create_file(image: &mut [u8], path: &[u8], bytes: &[u8], stamp: i64) -> u32
+pub fn sfs_create_file(image: &mut [u8], path: &[u8], bytes: &[u8], stamp: i64) -> u32
     ensures { CreatesFile image.old path.now bytes.now stamp result image.new }
 {
     creating::create(image, true, path, bytes, stamps::to_bits(stamp))
 }
 
-#[unsafe(no_mangle)]
-pub extern "C" fn sfs_create_directory(image: &mut [u8], path: &[u8], stamp: i64) -> u32
+pub fn sfs_create_directory(image: &mut [u8], path: &[u8], stamp: i64) -> u32
     ensures { CreatesDirectory image.old path.now stamp result image.new }
 {
     creating::create(image, false, path, b"", stamps::to_bits(stamp))
 }
 
-#[unsafe(no_mangle)]
-pub extern "C" fn sfs_delete(image: &mut [u8], path: &[u8], stamp: i64) -> u32
+pub fn sfs_delete(image: &mut [u8], path: &[u8], stamp: i64) -> u32
     ensures { Deletes image.old path.now stamp result image.new }
 {
     erasing::delete(image, path, stamps::to_bits(stamp))
 }
 
-#[unsafe(no_mangle)]
-pub extern "C" fn sfs_delete_keep(image: &mut [u8], path: &[u8], stamp: i64) -> u32
+pub fn sfs_delete_keep(image: &mut [u8], path: &[u8], stamp: i64) -> u32
     ensures { DeletesKeeping image.old path.now stamp result image.new }
 {
     erasing::delete_keep(image, path, stamps::to_bits(stamp))
 }
 
-#[unsafe(no_mangle)]
-pub extern "C" fn sfs_restore(image: &mut [u8], path: &[u8], stamp: i64) -> u32
+pub fn sfs_restore(image: &mut [u8], path: &[u8], stamp: i64) -> u32
     ensures { Restores image.old path.now stamp result image.new }
 {
     restoring::restore(image, path, stamps::to_bits(stamp))
 }
 
-#[unsafe(no_mangle)]
-pub extern "C" fn sfs_reclaim(image: &mut [u8], stamp: i64) -> u32
+pub fn sfs_reclaim(image: &mut [u8], stamp: i64) -> u32
     ensures { Reclaims image.old stamp result image.new }
 {
     erasing::reclaim(image, stamps::to_bits(stamp))
@@ -136,8 +123,7 @@ fn written(n: usize) -> Content
 }
 
 // The listing program's text, in an output that any text fits.
-#[unsafe(no_mangle)]
-pub extern "C" fn sfs_listing(image: &[u8], out: &mut [u8]) -> Content
+pub fn sfs_listing(image: &[u8], out: &mut [u8]) -> Content
     ensures { WritesListing image.now out.old result out.new }
 {
     if out.len() < listing::ROOM {
@@ -148,16 +134,14 @@ pub extern "C" fn sfs_listing(image: &[u8], out: &mut [u8]) -> Content
 }
 
 // Counts an image in a report.
-#[unsafe(no_mangle)]
-pub extern "C" fn sfs_report_add(image: &[u8], report: &mut [u64]) -> u32
+pub fn sfs_report_add(image: &[u8], report: &mut [u64]) -> u32
     ensures { CountsImage image.now report.old result report.new }
 {
     report::count_image(image, report)
 }
 
 // The text of a report, in an output that any text fits.
-#[unsafe(no_mangle)]
-pub extern "C" fn sfs_report_text(report: &[u64], out: &mut [u8]) -> Content
+pub fn sfs_report_text(report: &[u64], out: &mut [u8]) -> Content
     ensures { WritesReport report.now out.old result out.new }
 {
     if report.len() < report::NUMBERS {

@@ -30,7 +30,7 @@ put_volume-requires c =
 
 pub returns-in-Refused : goal.returns-in-Refused
 returns-in-Refused c =
-    let w = wrote_as _ _ _ _ _ _ (sym (refused (goal.at.returns-in-Refused c).In-Refused)) c.Put-refused.ensures in
+    let w = wrote_as _ _ _ _ _ _ (sym (refused (goal.at.returns-in-Refused c).In-Refused)) c.put_refused.ensures in
     record {
       wrote = w;
       lent = wrote-counts _ _ _ _ (omega (arith, fits (goal.at.returns-in-Refused c).After-shared_slice_known-1)) w;

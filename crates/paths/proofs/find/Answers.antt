@@ -8,7 +8,11 @@ use Rattle.paths.proofs.find.Goals as goal
 
 pub returns : goal.returns
 unfolding lookup live_at is_live live_type sought_kind reaches passes compares pick
-returns c = c.seek.ensures
+returns c = record {
+  searched = c.seek.ensures.searched;
+  counted = c.seek.ensures.counted;
+  edition = c.seek.ensures.edition;
+}
 
 pub seek-requires : goal.seek-requires
 seek-requires c = search (rules, of_live)

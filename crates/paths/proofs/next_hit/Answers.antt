@@ -14,8 +14,10 @@ head_at-h-requires c = let e = (strikes (goal.at.head_at-h-requires c).In-At).sp
 pub returns-in-On : goal.returns-in-On
 returns-in-On c =
     let over = goes_on _ _ _ _ _ _ c.pass_over.ensures.goes _ _ c.in-On.is in
-    going_end _ _ _ _ _ _ (over.going _ (going-first _ _ _ _ c.requires.0)) (no-more c.args.img.now c.in-On.field-0 (ends_on _ c.pass_over.ensures.ended _ _ c.in-On.is))
+    let told = going_end _ _ _ _ _ _ (over.going _ (going-first _ _ _ _ c.requires.0)) (no-more c.args.img.now c.in-On.field-0 (ends_on _ c.pass_over.ensures.ended _ _ c.in-On.is)) in
+    record { hits = told.0; counted = told.1.0; edition = told.1.1 }
 
 pub returns-in-At : goal.returns-in-At
 returns-in-At c =
-    (strikes (goal.at.returns-in-At c).In-At).comes _ (going-first _ _ _ _ c.requires.0) _ c.head_at-h.ensures.result_value c.head_at-h.ensures.place.0 c.head_at-h.ensures.place.1
+    let told = (strikes (goal.at.returns-in-At c).In-At).comes _ (going-first _ _ _ _ c.requires.0) _ c.head_at-h.ensures.result_value c.head_at-h.ensures.place.0 c.head_at-h.ensures.place.1 in
+    record { hits = told.0; counted = told.1.0; edition = told.1.1 }

@@ -26,7 +26,6 @@ returns-in-Nothing c =
 
 pub returns-in-Entry : goal.returns-in-Entry
 returns-in-Entry c =
-    let e = c.h-1.given in
-    let f = searched-entry _ _ _ c.look_up.ensures.searched _ e.1 in
-    let own = found_of _ _ c.look_up.ensures.edition _ e.1 in
-    entry-outcome _ _ _ c.entry_numbers.ensures.0 (c.entry_numbers.ensures.1 c.args.img.now ∙ ap (λ (ed : Held). numbers_of (edition_view ed) (head_view c.args.img.now e.0.0)) own) ∙ sym (find-done _ _ c.requires _ _ (good (goal.at.returns-in-Entry c).Else-not-path_good) f.0)
+    let f = searched-entry _ _ _ c.look_up.ensures.searched _ c.in-Entry.is in
+    let own = found_of _ _ c.look_up.ensures.edition _ c.in-Entry.is in
+    entry-outcome _ _ _ c.entry_numbers.ensures.0 (c.entry_numbers.ensures.1 c.args.img.now ∙ ap (λ (ed : Held). numbers_of (edition_view ed) (head_view c.args.img.now c.in-Entry.h)) own) ∙ sym (find-done _ _ c.requires _ _ (good (goal.at.returns-in-Entry c).Else-not-path_good) f.0)

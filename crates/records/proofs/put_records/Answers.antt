@@ -60,11 +60,11 @@ fits-requires c = ((met c).head, run c)
 pub returns-then-not-fits : goal.returns-then-not-fits
 returns-then-not-fits c =
     let e = c.part_put.ensures in
-    putting-full _ _ _ _ _ _ _ _ _ (put (goal.at.returns-then-not-fits c).In-Entry) _ _ (met (goal.at.returns-then-not-fits c).In-Entry).chosen _ e.0 e.1 e.2 e.3 (sym c.fits2.ensures ∙ c.if-not-fits.true)
+    putting-full _ _ _ _ _ _ _ _ _ (put (goal.at.returns-then-not-fits c).In-Entry) _ _ (met (goal.at.returns-then-not-fits c).In-Entry).chosen _ e.0 e.1 e.2 e.3 (sym c.fits.ensures ∙ c.if-not-fits.true)
 
 -- the next record fits
 room : (c : Else-not-fits) → leb (record_length (head_view c.args.img.now c.in-Entry.h)) (length c.args.out.now - c.loop-h.end) ≡ true
-room c = sym c.fits2.ensures ∙ c.if-not-fits.false
+room c = sym c.fits.ensures ∙ c.if-not-fits.false
 
 pub put_record-end-requires : goal.put_record-end-requires
 put_record-end-requires c =

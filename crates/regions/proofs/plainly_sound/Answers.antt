@@ -8,4 +8,4 @@ returns-then-not-all_good c = rw (sym c.all_good.ensures ∙ c.if-not-all_good.t
 
 pub returns : goal.returns
 unfolding regions_sound
-returns c = rw (sym c.all_good.ensures ∙ c.if-not-all_good.false) c.All-apart.ensures
+returns c = rw (sym c.all_good.ensures ∙ c.if-not-all_good.false) c.all_apart.ensures

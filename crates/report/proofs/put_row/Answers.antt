@@ -7,12 +7,12 @@ use Rattle.report.specs.Text.{row-text, row-length}
 use Rattle.report.proofs.put_row.Goals as goal
 use Rattle.report.proofs.put_row.Goals.{Start}
 
-long : (c : Start) → length c.args.t4 ≡ 3
-long c = (row-held c.args.t4 _ c.well_formed.1.1.1.0).long
+long : (c : Start) → length c.args.row ≡ 3
+long c = (row-held c.args.row _ c.well_formed.1.1.1.0).long
 
-room : (c : Start) → let r = c.args.t4 in
+room : (c : Start) → let r = c.args.row in
     length (row_text c.args.word.now r) ≡ length c.args.word.now + (length (decimal (get_or r 0 0)) + length (decimal (get_or r 1 0)) + length (decimal (get_or r 2 0)) + 4)
-room c = row-length c.args.word.now c.args.t4 (long c)
+room c = row-length c.args.word.now c.args.row (long c)
 
 pub put_bytes-slots-requires : goal.put_bytes-slots-requires
 put_bytes-slots-requires c = omega (arith, room (goal.at.put_bytes-slots-requires c).Start)
@@ -32,7 +32,7 @@ put_byte-requires c = omega (arith, room (goal.at.put_byte-requires c).Start)
 pub returns : goal.returns
 returns c =
     let n = room (goal.at.returns c).Start in
-    wrote_as _ _ _ _ _ _ (sym (row-text c.args.word.now c.args.t4 (long (goal.at.returns c).Start)))
+    wrote_as _ _ _ _ _ _ (sym (row-text c.args.word.now c.args.row (long (goal.at.returns c).Start)))
     (wrote-both _ _ _ _ _ _ _ _ (omega arith) c.put_bytes-slots.ensures
     (wrote-both _ _ _ _ _ _ _ _ (omega arith) c.put_counted-blocks.ensures
     (wrote-both _ _ _ _ _ _ _ _ (omega arith) c.put_counted-bytes.ensures

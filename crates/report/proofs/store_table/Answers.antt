@@ -7,7 +7,7 @@ use Rattle.report.proofs.store_table.Goals as goal
 
 pub returns : goal.returns
 returns c =
-    let t = c.args.t2 in
+    let t = c.args.table in
     let p : Stored t = table-held t _ c.well_formed.1.0 in
     (wrote-both _ _ _ _ _ 18 _ _ (omega (arith, c.requires)) (row_wrote _ 0 _ (stored_row t p 0 (omega arith)).long (omega (arith, c.requires)) _ 3 c.store_row.ensures refl)
     (wrote-both _ _ _ _ _ 18 _ _ (omega arith) (row_wrote _ 3 _ (stored_row t p 1 (omega arith)).long (omega arith) _ 6 c.store_row-2.ensures refl)

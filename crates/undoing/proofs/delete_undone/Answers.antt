@@ -8,7 +8,7 @@ use Rattle.undoing.proofs.delete_undone.Goals as goal
 use Rattle.undoing.proofs.delete_undone.Goals.{After-sfs_delete_keep-refusal}
 
 deletes : (c : After-sfs_delete_keep-refusal) → DeletesKeeping c.args.image.now c.args.path.now c.args.stamp c.sfs_delete_keep-refusal.result c.sfs_delete_keep-refusal.new.image
-deletes c = c.sfs_delete_keep-refusal.ensures ∙ ap (delete_keep_of c.args.image.now c.args.path.now) (to_z-of_z w64 c.args.stamp c.fits.stamp)
+deletes c = c.sfs_delete_keep-refusal.ensures ∙ ap (delete_keep_of c.args.image.now c.args.path.now) (to_z-of_z w64 c.args.stamp c.ranges.stamp)
 
 pub returns-then-refusal-ne0 : goal.returns-then-refusal-ne0
 returns-then-refusal-ne0 c = not-deleted _ _ _ _ _ (deletes (goal.at.returns-then-refusal-ne0 c).After-sfs_delete_keep-refusal) c.if-refusal-ne0.true

@@ -8,7 +8,7 @@ use Rattle.undoing.proofs.restored_too_late.Goals as goal
 use Rattle.undoing.proofs.restored_too_late.Goals.{After-sfs_reclaim-refusal}
 
 reclaims : (c : After-sfs_reclaim-refusal) → Reclaims c.args.image.now c.args.reclaimed c.sfs_reclaim-refusal.result c.sfs_reclaim-refusal.new.image
-reclaims c = c.sfs_reclaim-refusal.ensures ∙ ap (reclaim_of c.args.image.now) (to_z-of_z w64 c.args.reclaimed c.fits.reclaimed)
+reclaims c = c.sfs_reclaim-refusal.ensures ∙ ap (reclaim_of c.args.image.now) (to_z-of_z w64 c.args.reclaimed c.ranges.reclaimed)
 
 pub returns-then-refusal-ne0 : goal.returns-then-refusal-ne0
 returns-then-refusal-ne0 c = not-reclaimed _ _ _ _ (reclaims (goal.at.returns-then-refusal-ne0 c).After-sfs_reclaim-refusal) c.if-refusal-ne0.true
