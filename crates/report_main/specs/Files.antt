@@ -17,6 +17,16 @@ abbrev pub BytesIn : ℕ → Got → List ℕ → Type 0
 BytesIn at Failed s = Unit {0}
 BytesIn at (Bytes n) s = at + n ≤ length s
 
+module _ (at : ℕ) (s : List ℕ) where
+  pub bytes-failed : BytesIn at Failed s
+  bytes-failed = tt
+
+  pub bytes-in : (n : ℕ) → at + n ≤ length s → BytesIn at (Bytes n) s
+  bytes-in n h = h
+
+  pub bytes-say : (r : Got) → BytesIn at r s → (n : ℕ) → r ≡ Bytes n → at + n ≤ length s
+  bytes-say r f n e = rw e at f
+
 -- ---- where a reader's bytes are known: those that it gave, since it had a left, are in the buffer up to where it was read
 abbrev pub ReadUpTo : Option (List ℕ) → Option (List ℕ) → ℕ → Got → List ℕ → Type 0
 ReadUpTo a b at Failed s = Unit {0}

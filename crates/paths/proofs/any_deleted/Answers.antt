@@ -10,8 +10,7 @@ pub returns-then-not-keeps_deleted : goal.returns-then-not-keeps_deleted
 returns-then-not-keeps_deleted c = sym (any_none _ _ (all-undeleted _ (sym c.keeps_deleted.ensures ∙ c.if-not-keeps_deleted.true) _ _ _))
 
 pub any_passes-requires : goal.any_passes-requires
-any_passes-requires c =
-    (
+any_passes-requires c = (
   c.requires.0,
   of-deleted _ (sym c.keeps_deleted.ensures ∙ c.if-not-keeps_deleted.false),
   c.requires.1,

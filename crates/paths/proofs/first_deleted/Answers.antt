@@ -14,8 +14,7 @@ returns-then-not-keeps_deleted c =
     }
 
 pub next_hit-requires : goal.next_hit-requires
-next_hit-requires c =
-    (
+next_hit-requires c = (
   c.requires.0,
   of-deleted _ (sym c.keeps_deleted.ensures ∙ c.if-not-keeps_deleted.false),
   c.requires.1,

@@ -19,10 +19,9 @@ pub shape_of-out : goal.shape_of-out
 shape_of-out c = omega arith
 
 pub returns : goal.returns
-returns c =
-    (
-      wrote-both _ _ _ _ _ _ _ _ (omega arith) c.put_two-h.ensures.0
-          (wrote-both _ _ _ _ _ _ _ _ (omega arith) c.put_two-m.ensures.0
-          (wrote-both _ _ _ _ _ _ _ _ (omega arith) c.put_two-s.ensures.0 c.put_byte.ensures)),
-      omega arith,
-    )
+returns c = (
+  wrote-both _ _ _ _ _ _ _ _ (omega arith) c.put_two-h.ensures.0
+      (wrote-both _ _ _ _ _ _ _ _ (omega arith) c.put_two-m.ensures.0
+      (wrote-both _ _ _ _ _ _ _ _ (omega arith) c.put_two-s.ensures.0 c.put_byte.ensures)),
+  omega arith,
+)
