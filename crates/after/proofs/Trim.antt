@@ -14,7 +14,8 @@ use Rattle.rules.specs.Index.{Entry, items_of}
 use Rattle.rules.specs.Regions.{regions_sound}
 use Rattle.rules.specs.Paths.{paths_sound}
 use Rattle.rules.specs.Refusals.{Volume, entries}
-use Rattle.rules.specs.Refusals.Laws.{GoodSuper, Opens, opens-judge, opens-super, sizes-super}
+use Rattle.rules.specs.Refusals.Laws.{GoodSuper, Opens, opens-judge, opens-super}
+use Rattle.rules.proofs.Refusals.Laws.{sizes-super}
 use Rattle.rules.specs.Writing.{least_end, trimmed_to, cleared}
 use Rattle.after.specs.After.{is_named, seen, Left, sight, unusables}
 use Rattle.laws.proofs.Lists.Perms.{perm-of}

@@ -1,4 +1,4 @@
-// The answers of the calls that read, as include/sfs.h declares them. What each call promises: specs/Contracts.antt.
+// The answers of the calls that read, as include/sfs.h declares them. What each call promises: specs/Promises.antt.
 
 #![tactic(auto)]
 

@@ -1,4 +1,4 @@
--- DEMAND 3 OF THE CODE: runs of the exported calls, the history that is fed their answers, and what is claimed of both.
+-- DEMAND 3 OF THE CODE: runs of the calls of sfs, the history that is fed their answers, and what is claimed of both.
 use Rattle.std.specs.Prelude.{ℕ, ◌+◌, ◌≤◌, ◌≡◌, true, List, [], ◌∷◌, ◌++◌, length, eqb, ℤ}
 use Rattle.rules.specs.Lists.{only, All}
 use Rattle.rules.specs.Fields.{splice}
@@ -19,7 +19,7 @@ use Rattle.contracts.specs.declared.Content.{Content}
 abbrev pub passed_as : ℕ → List ℕ → Passed
 passed_as r t = record { answered = eqb r 0; image = t }
 
--- the code's answer to a call on the image s meets the contract of the exported function, and p is what passes on
+-- the code's answer to a call on the image s meets the contract of the function of sfs, and p is what passes on
 abbrev pub Answered : List ℕ → Call → Passed → Type 0
 Answered s (format version bytes_per_block reserved name stamp) p = (r : ℕ) × (t : List ℕ) × Formats s version bytes_per_block reserved name stamp r t × (p ≡ passed_as r t)
 Answered s (open_volume out) p = (r : Volume) × (after : List ℕ) × OpensVolume s out r after × (p ≡ passed_as r.refusal s)

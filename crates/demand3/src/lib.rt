@@ -1,4 +1,4 @@
-// The exported calls as steps of a run: that each export's own contract says so is what ties demand 3 to the code. See specs/Runs.antt.
+// The calls of sfs, which the exports for C pass on, as steps of a run: that each call's own contract says so is what ties demand 3 to the code. See specs/Runs.antt.
 
 #![tactic(auto)]
 

@@ -8,7 +8,7 @@ use Rattle.rules.specs.Lists.{every_two, only, All, Pairs, Perm}
 use Rattle.rules.specs.Index.{Entry}
 use Rattle.rules.specs.Regions.{Extent, extent_of, apart}
 use Rattle.rules.specs.RegionTable.{regions_of, extent_le, in_order}
-use Rattle.rules.specs.RegionTable.Laws.{Comes, lower, level, le-says, le-holds, in-order-only, in-order-same, in-order-ascends}
+use Rattle.rules.proofs.RegionTable.Laws.{Comes, lower, level, le-says, le-holds, in-order-only, in-order-same, in-order-ascends}
 use Rattle.laws.proofs.Lists.Every.{all-weaken, all-and, all-only, all-chosen, all_map, pairs-map, map_same}
 use Rattle.laws.proofs.Lists.Parts.{map-map}
 use Rattle.laws.proofs.Lists.Perms.{perm-all, perm-map}

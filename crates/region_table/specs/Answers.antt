@@ -14,7 +14,7 @@ use Rattle.rules.specs.Index.{Entry, items_of, entries_of}
 use Rattle.rules.specs.Regions.{Extent, region_good, regions_sound}
 use Rattle.rules.specs.Refusals.{refused, accepted}
 use Rattle.rules.specs.RegionTable.{regions_of, in_order, apart_number, untabled, judge_bounds, table_of, sharing_of}
-use Rattle.rules.specs.RegionTable.Laws.{perm-order, in-order-same, bounds-bad-regions, bounds-good, table-refused, table-short, table-told, sharing-sound, sharing-unsound}
+use Rattle.rules.proofs.RegionTable.Laws.{perm-order, in-order-same, bounds-bad-regions, bounds-good, table-refused, table-short, table-told, sharing-sound, sharing-unsound}
 use Rattle.laws.proofs.Lists.Perms.{perm-all, perm-length}
 use Rattle.ordering.specs.Regions.{extent_key, extents_in_turn, Small}
 use Rattle.ordering.specs.Tables.{key_extent, SmallExtent, sorted-extents, regions-small, regions-of-keys, neighbours-decide}

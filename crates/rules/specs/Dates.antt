@@ -4,8 +4,6 @@ use Rattle.rules.specs.Lists.{pick}
 use Rattle.rules.specs.Text.{text, joined, decimal, widened}
 pub mod Laws
 pub mod Counting
-pub mod Years
-pub mod Calendar
 pub mod Quick
 pub mod Range
 pub mod Text

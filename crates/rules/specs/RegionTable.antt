@@ -4,7 +4,6 @@ use Rattle.rules.specs.Lists.{pick, all, only, every_two}
 use Rattle.rules.specs.Index.{Entry, items_of, entries_of, index_sound}
 use Rattle.rules.specs.Regions.{Extent, extent_of, region_good, apart}
 use Rattle.rules.specs.Refusals.{Verdict, refused, accepted, need, and_then, judge_geometry}
-pub mod Laws
 
 -- the regions of one block or more, of live files, deleted files and unusable entries, their ends exclusive in either edition; an empty file and a directory have none
 unfoldable pub regions_of : List Entry → List Extent

@@ -20,7 +20,8 @@ use Rattle.rules.specs.Index.Frame.{take_same}
 use Rattle.rules.specs.Regions.{blocks_of}
 use Rattle.rules.specs.Paths.{is_live, live_at, lookup, next_live}
 use Rattle.rules.specs.Refusals.{Verdict, accepted, need, need_found, and_then, Volume, entries, judge}
-use Rattle.rules.specs.Refusals.Laws.{judge-opens, edition-same}
+use Rattle.rules.specs.Refusals.Laws.{judge-opens}
+use Rattle.rules.proofs.Refusals.Laws.{edition-same}
 use Rattle.rules.specs.Outcome.{Outcome, done, conclude, on_volume, no_entry, numbers_of, none_listed}
 use Rattle.rules.specs.Reading.{find_of, read_of, list_of, listed, file_bytes}
 use Rattle.rules.specs.Records.{number_bytes, record_of, record_step, records_from, no_records, records_outcome, list_all_of}

@@ -1,4 +1,4 @@
-// The exported calls on two images: where these agree in what find, read, list and list all look at, so do the answers. See specs/Unseen.antt for
+// The calls of sfs, which the exports for C pass on, on two images: where these agree in what find, read, list and list all look at, so do the answers. See specs/Unseen.antt for
 // what that leaves out.
 
 #![tactic(auto)]

@@ -1,4 +1,4 @@
--- What exported calls come to, alone or one after the other, on any image s and with any arguments; u is the image that is left.
+-- What calls of sfs come to, alone or one after the other, on any image s and with any arguments; u is the image that is left.
 use Rattle.std.specs.Prelude.{ℕ, ◌≡◌, Bool, true, false, List, ◌⊎◌, ℤ}
 use Rattle.std.proofs.Math.Option.{some}
 use Rattle.rules.specs.Lists.{pick}

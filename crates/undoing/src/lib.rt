@@ -1,4 +1,4 @@
-// What can be undone: nothing of a plain delete, a delete that keeps, and nothing behind a reclaim. Exported calls, alone or one after the other.
+// What can be undone: nothing of a plain delete, a delete that keeps, and nothing behind a reclaim. Calls of sfs, alone or one after the other.
 
 #![tactic(auto)]
 

@@ -18,7 +18,8 @@ use Rattle.rules.specs.Index.{Entry, items_of, slot_at, slot_bytes, run_bytes}
 use Rattle.rules.specs.Regions.{region_good, apart, regions_sound, blocks_of, blocks_needed}
 use Rattle.rules.specs.Paths.{paths_sound}
 use Rattle.rules.specs.Refusals.{accepted, Volume, entries, judge}
-use Rattle.rules.specs.Refusals.Laws.{GoodSuper, Opens, judge-opens, opens-judge, opens-super, sizes-super}
+use Rattle.rules.specs.Refusals.Laws.{GoodSuper, Opens, judge-opens, opens-judge, opens-super}
+use Rattle.rules.proofs.Refusals.Laws.{sizes-super}
 use Rattle.rules.specs.Reading.{file_bytes}
 use Rattle.rules.specs.Writing.{New, bytes_of, new_entry, put_marker, created, new_slots, new_blocks, Place, Site, site_of}
 use Rattle.rules.specs.Writing.Laws.{tidy_image}

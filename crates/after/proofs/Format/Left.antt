@@ -17,7 +17,8 @@ use Rattle.rules.specs.Index.{entries_of}
 use Rattle.rules.specs.Regions.{regions_sound}
 use Rattle.rules.specs.Paths.{paths_sound}
 use Rattle.rules.specs.Refusals.{Volume}
-use Rattle.rules.specs.Refusals.Laws.{length-bounds, Opens, super-opens, opens-judge, length-formatted, formatted-ends, format-super, fresh-edition, fresh-version, fresh-block}
+use Rattle.rules.specs.Refusals.Laws.{length-bounds, Opens, super-opens, opens-judge, length-formatted, formatted-ends, fresh-edition, fresh-version, fresh-block}
+use Rattle.rules.proofs.Refusals.Laws.{format-super}
 use Rattle.rules.specs.Writing.{Written, format_of, formatted, fresh_geometry}
 use Rattle.laws.proofs.Lists.Perms.{perm-of}
 use Rattle.after.specs.After.{sight, unusables, AfterFormat}

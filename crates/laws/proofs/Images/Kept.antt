@@ -11,7 +11,8 @@ use Rattle.rules.specs.Editions.Laws.{super-bounds}
 use Rattle.rules.specs.SuperBlock.{Geometry}
 use Rattle.rules.specs.Index.{items_of, slot_at, slot_bytes, identifier_at}
 use Rattle.rules.specs.Refusals.{accepted, Volume, judge}
-use Rattle.rules.specs.Refusals.Laws.{GoodSuper, judge-super, super-judge, judge_geometry-same, judge-opens, opens-judge, opens-super, super-opens}
+use Rattle.rules.specs.Refusals.Laws.{GoodSuper, judge-super, super-judge, judge-opens, opens-judge, opens-super, super-opens}
+use Rattle.rules.proofs.Refusals.Laws.{judge_geometry-same}
 use Rattle.laws.proofs.Lists.Spans.{SameBut, but-part, but-drop, drop-from, part-from}
 use Rattle.laws.proofs.Index.Slots.{slot-at, slot-first, identifier-at, items-same}
 use Rattle.laws.proofs.Index.Ends.{ends_good, ends-good, good-ends, ends_same}

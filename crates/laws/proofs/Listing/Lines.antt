@@ -6,7 +6,7 @@ use native.Mathlib.Omega.{arith}
 use lib.ListN.{length, length-append}
 use Rattle.rules.specs.Fields.{Bytes}
 use Rattle.rules.specs.Text.Laws.{decimal-64}
-use Rattle.rules.specs.Dates.Text.{moment-text-fits}
+use Rattle.rules.proofs.Dates.Text.{moment-text-fits}
 use Rattle.rules.specs.Editions.{Edition, edition10, edition110, by_edition, stored_end}
 use Rattle.rules.specs.Index.Items.{stale-fits}
 use Rattle.rules.specs.Index.{Entry, item_at}

@@ -13,7 +13,7 @@ use Rattle.rules.specs.Regions.{Extent, extent_of}
 use Rattle.rules.specs.Refusals.{Verdict, refused, accepted, judge_geometry}
 use Rattle.rules.specs.Refusals.Laws.{accepted-is, need-accepted, then-accepted, judge-super}
 use Rattle.rules.specs.RegionTable.{regions_of, Tabled, untabled, judge_bounds, table_of, sharing_of}
-use Rattle.rules.specs.RegionTable.Laws.{in-order-same, table-refused, table-told, sharing-refused, sharing-told}
+use Rattle.rules.proofs.RegionTable.Laws.{in-order-same, table-refused, table-told, sharing-refused, sharing-told}
 use Rattle.laws.proofs.Lists.Every.{only-fewer}
 use Rattle.laws.proofs.Lists.Perms.{perm-length}
 use Rattle.laws.proofs.Index.Slots.{inner-slots}

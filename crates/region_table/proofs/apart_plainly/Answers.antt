@@ -1,6 +1,6 @@
 use mathlib.Core.Path.{sym, ap, ◌∙◌}
 use Rattle.rules.specs.RegionTable.{apart_number}
-use Rattle.rules.specs.RegionTable.Laws.{bounds-bad-slots, sharing-refused}
+use Rattle.rules.proofs.RegionTable.Laws.{bounds-bad-slots, sharing-refused}
 use Rattle.region_table.specs.Entries.{first-unsound, first-at}
 use Rattle.region_table.specs.Answers.{sound-number}
 use Rattle.region_table.proofs.apart_plainly.Goals as goal

@@ -1,5 +1,5 @@
 use mathlib.Core.Path.{sym, ap, ◌∙◌}
-use Rattle.rules.specs.RegionTable.Laws.{bounds-refused}
+use Rattle.rules.proofs.RegionTable.Laws.{bounds-refused}
 use Rattle.super_block.specs.View.{super_view}
 use Rattle.region_table.specs.Answers.{prepared-refused}
 use Rattle.region_table.proofs.prepare.Goals as goal

@@ -1,4 +1,4 @@
-use Rattle.rules.specs.RegionTable.Laws.{bounds-bad-slots}
+use Rattle.rules.proofs.RegionTable.Laws.{bounds-bad-slots}
 use Rattle.region_table.specs.Entries.{first-unsound, first-at}
 use Rattle.region_table.specs.Answers.{prepared-refused}
 use Rattle.region_table.proofs.prepare_index.Goals as goal

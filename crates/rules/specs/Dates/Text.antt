@@ -4,8 +4,8 @@ use Rattle.std.proofs.Common.{append_assoc, arith, length-append}
 use Rattle.std.specs.Int.Signed.{mag}
 use Rattle.rules.specs.Text.{text, joined, decimal, widened}
 use Rattle.rules.specs.Text.Laws.{decimal-length, wide-length, wide-exact}
-use Rattle.rules.specs.Dates.{year_text, two_digits, Moment, moment_of, moment_text}
-use Rattle.rules.specs.Dates.Range.{InRange, moment-in-range}
+use Rattle.rules.specs.Dates.{year_text, two_digits, Moment, moment_text}
+use Rattle.rules.specs.Dates.Range.{InRange}
 
 pub length-two_digits : (n : ℕ) → n < 100 → length (two_digits n) ≡ 2
 unfolding two_digits
@@ -47,11 +47,7 @@ length-time_text : (hour minute second : ℕ) → hour < 100 → minute < 100 �
 length-time_text hour minute second h k l =
     simp (length-append, length-two_digits hour h, length-two_digits minute k, length-two_digits second l)
 
-length-moment_text : (m : Moment) → InRange m → length (moment_text m) ≤ 30
+pub length-moment_text : (m : Moment) → InRange m → length (moment_text m) ≤ 30
 length-moment_text m ((y, a, b, c, d), h, k, l) =
     rw (moment_text-parts m, length-append)
     (omega (arith, length-date_text m.date.year m.date.month m.date.day y (omega arith) (omega arith), length-time_text m.hour m.minute m.second (omega arith) (omega arith) (omega arith)))
-
--- the moment of any stamp of 64 bits
-pub moment-text-fits : (stamp : ℤ) → mag stamp < 2 ^ 63 → length (moment_text (moment_of stamp)) ≤ 30
-moment-text-fits stamp h = length-moment_text (moment_of stamp) (moment-in-range stamp h)

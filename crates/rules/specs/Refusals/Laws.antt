@@ -13,14 +13,14 @@ use Rattle.rules.specs.Fields.{byte_at, le, splice, stamp_bytes}
 use Rattle.rules.specs.Fields.Laws.{byte_le, le-part, length-le_bytes, length-splice, part-splice-in}
 use Rattle.rules.specs.Editions.{Edition, edition10, edition110, by_edition, version_of, super_block_at, version_read, sum_of}
 use Rattle.rules.specs.Editions.Laws.{super-bounds, length-sum, sum-short}
-use Rattle.rules.specs.SuperBlock.{Geometry, geometry_of, geometry_good, length_good, block_bytes, block_length, magic_at, total_at, sealed_length, magic, super_block_bytes, with_stamp, put_sizes}
-use Rattle.rules.specs.SuperBlock.Laws.{GoodGeometry, FieldsFit, few-blocks, le-here, written-total, geometry-good, good-geometry, as_stored, length-least, good-fit, good-stored, length-super, super-frame, SameSealed, sealed-same, sealed-part, geometry-same, sealed-checks, written-geometry, written-version, written-magic, written-sealed, length-put_sizes, put_sizes-after, put_sizes-geometry}
+use Rattle.rules.specs.SuperBlock.{Geometry, geometry_of, geometry_good, length_good, block_bytes, block_length, magic_at, total_at, sealed_length, magic, super_block_bytes}
+use Rattle.rules.specs.SuperBlock.Laws.{GoodGeometry, FieldsFit, few-blocks, le-here, written-total, geometry-good, good-geometry, length-super, super-frame, sealed-same, sealed-checks, written-version, written-magic, written-sealed}
 use Rattle.rules.specs.Names.{volume_text_good, volume_name_good}
 use Rattle.rules.specs.Index.{Item, items_of, entries_of, index_sound, type_marker, type_identifier, slot_bytes, marker_bytes, identifier_bytes}
 use Rattle.rules.specs.Index.Laws.{length-bare}
 use Rattle.rules.specs.Regions.{regions_sound}
 use Rattle.rules.specs.Paths.{paths_sound}
-use Rattle.rules.specs.Refusals.{Verdict, refused, accepted, need, need_found, and_then, Volume, entries, magic_good, edition_of, version_good, checksum_good, judge_super, judge_geometry, judge_index, judge, judge_read, judge_as, OneEdition, AnyOrder}
+use Rattle.rules.specs.Refusals.{Verdict, refused, accepted, need, need_found, and_then, Volume, entries, magic_good, edition_of, version_good, checksum_good, judge_super, judge_geometry, judge_index, judge, judge_read, judge_as, OneEdition}
 use Rattle.rules.specs.Writing.{fresh_geometry, formatted}
 
 -- ---- a chain of tests
@@ -247,7 +247,7 @@ opens-judge s v o =
     e ∙ rw (← o.items-are) (index-good s v.geometry v.items o.index-sound o.regions-sound o.paths-sound)
 
 -- ---- what these tests depend on: the bytes that the checksum seals, and with the sizes the whole super-block
-two-editions : {X : Type 0} → edition10 ≡ edition110 → X
+pub two-editions : {X : Type 0} → edition10 ≡ edition110 → X
 two-editions e = let z : ◌≡◌ {A = ℕ} 0 1 = cc in absurd (omega arith)
 
 found-is : {x y : Edition} → some x ≡ some y → x ≡ y
@@ -294,29 +294,11 @@ module _ (ed : Edition) (s t : List ℕ) (same : part s (magic_at ed) sealed_len
   checksum-same = rw same
 
 -- 1.0's magic would lie among the bytes that 1.10's checksum seals
-first-magic-same : (s t : List ℕ) → part s (magic_at edition110) sealed_length ≡ part t (magic_at edition110) sealed_length → magic_good edition10 s ≡ magic_good edition10 t
+pub first-magic-same : (s t : List ℕ) → part s (magic_at edition110) sealed_length ≡ part t (magic_at edition110) sealed_length → magic_good edition10 s ≡ magic_good edition10 t
 unfolding magic_good super_block_at by_edition
 first-magic-same s t same =
     ap (λ (p : List ℕ). eq_list p magic)
     (sym (part-part s 0x1A6 18 6 3 (omega arith)) ∙ ap (λ (p : List ℕ). part p 6 3) same ∙ part-part t 0x1A6 18 6 3 (omega arith))
-
-pub edition-same : (ed : Edition) (s t : List ℕ) → part s (magic_at ed) sealed_length ≡ part t (magic_at ed) sealed_length → edition_of t ≡ some ed → edition_of s ≡ some ed
-edition-same edition10 s t same e =
-    let m = edition-magic t edition10 e in
-    magic-edition s edition10 (magic-same edition10 s t same ∙ m.0) (λ q. two-editions q)
-edition-same edition110 s t same e =
-    let m = edition-magic t edition110 e in
-    magic-edition s edition110 (magic-same edition110 s t same ∙ m.0) (λ q. first-magic-same s t same ∙ m.1 refl)
-
-pub judge_geometry-same : (s t : List ℕ) (ed : Edition) → length s ≡ length t → part s (super_block_at ed) 42 ≡ part t (super_block_at ed) 42 → edition_of t ≡ some ed
-    → judge_geometry s ≡ judge_geometry t
-unfolding judge_geometry judge_super
-judge_geometry-same s t ed l same f =
-    let e = sealed-part ed s t same in
-    let one : judge_super s ed ≡ judge_super t ed = rw (l, version-same ed s t e, checksum-same ed s t e, geometry-same ed s t same) in
-    let both : need_found (edition_of s) 2 (judge_super s) ≡ need_found (edition_of t) 2 (judge_super t) =
-    found_some 2 (judge_super s) (edition-same ed s t e f) ∙ one ∙ sym (found_some 2 (judge_super t) f) in
-    rw (l, both)
 
 -- the bytes of a magic
 magic-byte : (ed : Edition) (s : List ℕ) → magic_good ed s ≡ true → byte_at s (magic_at ed) ≡ 0x53
@@ -338,7 +320,7 @@ total-large : (s : List ℕ) → magic_good edition10 s ≡ true → 0x53 * 65_5
 unfolding super_block_at by_edition
 total-large s m = third-byte s 0x1AA (magic-byte edition10 s m)
 
-not_first : (t : List ℕ) → le 8 t (total_at edition110) ≤ 65_536 → magic_good edition10 t ≡ false
+pub not_first : (t : List ℕ) → le 8 t (total_at edition110) ≤ 65_536 → magic_good edition10 t ≡ false
 not_first t few = by (magic_good edition10 t) refl
   where
     by : (b : Bool) → magic_good edition10 t ≡ b → magic_good edition10 t ≡ false
@@ -360,44 +342,10 @@ module _ (t : List ℕ) (g : Geometry) (here : part t (super_block_at g.edition)
   written-checksum-good = rw (written-sealed t g here) (sealed-checks g)
 
   -- in 1.10 a total of so few blocks has no 0x53 where 1.0's magic begins
-  written-first : g.edition ≡ edition110 → FieldsFit g → g.total ≤ 65_536 → magic_good edition10 t ≡ false
+  pub written-first : g.edition ≡ edition110 → FieldsFit g → g.total ≤ 65_536 → magic_good edition10 t ≡ false
   written-first e fit few =
       let total : le 8 t (total_at edition110) ≡ g.total = subst (λ (x : Edition). le 8 t (total_at x) ≡ g.total) e (written-total t g here fit.total-fit) in
       not_first t (omega (arith, total, few))
-
-  pub written-edition : FieldsFit g → g.total ≤ 65_536 → edition_of t ≡ some g.edition
-  written-edition fit few = magic-edition t g.edition written-magic-good (λ e. written-first e fit few)
-
-  pub written-super : length t ≤ 16_777_216 → version_read g.edition g.version ≡ true → GoodGeometry (length t) g → GoodSuper t (as_stored g)
-  unfolding as_stored with_stamp
-  written-super high v good = record {
-    length-low = omega (arith, length-least (length t) g good);
-    length_high = high;
-    edition-is = written-edition (good-fit (length t) g good high) (few-blocks (length t) g good high);
-    version-good = written-version-good v;
-    checksum-good = written-checksum-good;
-    geometry-is = sym (written-geometry t g here (good-fit (length t) g good high));
-    geometry-good = good-stored (length t) g good;
-  }
-
--- and so is one whose sizes were written
-pub sizes-super : (s : List ℕ) (g h : Geometry) → GoodSuper s h → SameSealed g h → GoodGeometry (length s) g → GoodSuper (put_sizes s g) (as_stored g)
-unfolding as_stored with_stamp
-sizes-super s g h o same good =
-    let d = same.edition-same in
-    let room : super_block_at g.edition + 42 ≤ length s = omega (arith, o.length-low, super-bounds g.edition) in
-    let e = put_sizes-after s g room (magic_at g.edition) 18 (omega arith) in
-    let l = length-put_sizes s g room in
-    let fit = good-fit (length s) g good o.length_high in
-    record {
-      length-low = rw l o.length-low;
-      length_high = rw l o.length_high;
-      edition-is = edition-same g.edition (put_sizes s g) s e (o.edition-is ∙ ap some (sym d));
-      version-good = version-same g.edition (put_sizes s g) s e ∙ rw d o.version-good;
-      checksum-good = checksum-same g.edition (put_sizes s g) s e ∙ rw d o.checksum-good;
-      geometry-is = sym (put_sizes-geometry s g room fit.data-fit fit.index-fit (subst (λ (x : Geometry). SameSealed g x) (o.geometry-is ∙ ap (λ (x : Edition). geometry_of x s) (sym d)) same));
-      geometry-good = rw l (good-stored (length s) g good);
-    }
 
 -- ---- format
 pub length-marker : (ed : Edition) → length (marker_bytes ed) ≡ 64
@@ -472,14 +420,6 @@ module _ (s : List ℕ) (g : Geometry) (name : List ℕ) (room : 1024 ≤ length
   unfolding formatted begun ends
   formatted-ends = rw length-ends at (part-splice-in begun (length s - 128) ends ends-room)
 
--- a formatted image has the geometry that it was formatted to
-pub format-super : (s : List ℕ) (g : Geometry) (name : List ℕ) → length s ≤ 16_777_216 → version_read g.edition g.version ≡ true → GoodGeometry (length s) g → length name ≤ 51
-    → GoodSuper (formatted s g name) (as_stored g)
-format-super s g name high v good short =
-    let room = length-least (length s) g good in
-    let l = length-formatted s g name room short in
-    written-super (formatted s g name) g (formatted-super s g name room short) (omega arith) v (rw l good)
-
 pub fresh-edition : (ed : Edition) (n b reserved : ℕ) (z : ℤ) → (fresh_geometry ed n b reserved z).edition ≡ ed
 unfolding fresh_geometry
 fresh-edition ed n b reserved z = refl
@@ -499,7 +439,7 @@ unfolding geometry_of super_block_at by_edition
 index-large s m = third-byte s 0x1A4 (magic-byte edition110 s m)
 
 -- what an edition that opens an image by itself has found
-alone-good : (s : List ℕ) (v : Volume) (ed : Edition) → judge_as ed s ≡ accepted v
+pub alone-good : (s : List ℕ) (v : Volume) (ed : Edition) → judge_as ed s ≡ accepted v
     → (length s ≤ 16_777_216) × (magic_good ed s ≡ true) × GoodGeometry (length s) (geometry_of ed s)
 unfolding judge_as judge_super
 alone-good s v ed a =
@@ -509,11 +449,11 @@ alone-good s v ed a =
     let c = need-accepted _ _ _ (need-accepted _ _ _ (need-accepted _ _ _ r).1).1 in
     ((length-bounds (length s) l.0).1, m.0, geometry-good (length s) (geometry_of ed s) c.0)
 
-alone-few : (s : List ℕ) (v : Volume) → judge_as edition110 s ≡ accepted v → le 8 s (total_at edition110) ≤ 65_536
+pub alone-few : (s : List ℕ) (v : Volume) → judge_as edition110 s ≡ accepted v → le 8 s (total_at edition110) ≤ 65_536
 unfolding geometry_of
 alone-few s v a = let good = alone-good s v edition110 a in few-blocks (length s) (geometry_of edition110 s) good.2 good.0
 
-one-magic : (s : List ℕ) (v : Volume) (ed other : Edition) → judge_as ed s ≡ accepted v → magic_good other s ≡ true → other ≡ ed
+pub one-magic : (s : List ℕ) (v : Volume) (ed other : Edition) → judge_as ed s ≡ accepted v → magic_good other s ≡ true → other ≡ ed
 one-magic s v edition10 edition10 a m = refl
 one-magic s v edition10 edition110 a m = absurd (omega (arith, index-large s m, (alone-good s v edition10 a).2.index-high))
 one-magic s v edition110 edition10 a m = absurd (omega (arith, total-large s m, alone-few s v a))
@@ -522,27 +462,7 @@ one-magic s v edition110 edition110 a m = refl
 pub one-edition : OneEdition
 one-edition s v w a b = two-editions (sym (one-magic s v edition10 edition110 a (alone-good s w edition110 b).1))
 
--- ---- so that the order in which the magics are sought does not matter
-then-need : {A B : Type 0} (b : Bool) (n : ℕ) (v : Verdict A) (next : A → Verdict B) → and_then (need b n v) next ≡ need b n (and_then v next)
+pub then-need : {A B : Type 0} (b : Bool) (n : ℕ) (v : Verdict A) (next : A → Verdict B) → and_then (need b n v) next ≡ need b n (and_then v next)
 unfolding need and_then
 then-need true n v next = refl
 then-need false n v next = refl
-
--- an image is judged as by the edition that is found
-found-alone : (s : List ℕ) (ed : Edition) → edition_of s ≡ some ed → judge s ≡ judge_as ed s
-unfolding judge judge_geometry judge_as need
-found-alone s ed f =
-    then-need (length_good (length s)) 1 (need_found (edition_of s) 2 (judge_super s)) _
-    ∙ rw (found_some 2 (judge_super s) f, (edition-magic s ed f).0)
-
--- and the edition that opens it by itself is found
-alone-found : (s : List ℕ) (v : Volume) (ed : Edition) → judge_as ed s ≡ accepted v → edition_of s ≡ some ed
-alone-found s v edition10 a = magic-edition s edition10 (alone-good s v edition10 a).1 (λ e. two-editions e)
-alone-found s v edition110 a = magic-edition s edition110 (alone-good s v edition110 a).1 (λ e. not_first s (alone-few s v a))
-
-pub any_order : AnyOrder
-any_order s v = (
-  λ a. sym (found-alone s v.geometry.edition (judge-opens s v a).edition-is) ∙ a,
-  λ ed a. found-alone s ed (alone-found s v ed a) ∙ a,
-  one-magic s v,
-)

@@ -2,7 +2,8 @@ use Prim.Native.Nat.{◌+◌, ◌<◌}
 use native.Mathlib.Omega.{arith}
 use mir.Syntax.{w64}
 use mir.ValLaws.{to_z-of_z}
-use Rattle.rules.specs.Dates.Quick.{month_of, date_at, year_of-lt, day_of-lt, carry-le}
+use Rattle.rules.specs.Dates.Quick.{month_of, date_at}
+use Rattle.rules.proofs.Dates.Quick.{year_of-lt, day_of-lt, carry-le}
 use Rattle.stamps.proofs.date_at.Goals as goal
 use Rattle.stamps.proofs.date_at.Goals.{After-month_day-md}
 

@@ -3,8 +3,9 @@ use lib.IntN.{pos, ◌+ℤ◌}
 use mir.Syntax.{w64}
 use mir.ValLaws.{to_z-of_z}
 use Rattle.rules.specs.Dates.Laws.{mod_below}
-use Rattle.rules.specs.Dates.Quick.{quick_date, quick-date}
-use Rattle.rules.specs.Dates.Range.{cycles-small}
+use Rattle.rules.specs.Dates.Quick.{quick_date}
+use Rattle.rules.proofs.Dates.Quick.{quick-date}
+use Rattle.rules.proofs.Dates.Range.{cycles-small}
 use Rattle.stamps.proofs.Calendar.{shift-asks, shift_is}
 use Rattle.stamps.proofs.date_of.Goals as goal
 

@@ -4,7 +4,8 @@ use mir.Syntax.{w64}
 use mir.Val.{SFits, of_z, to_z}
 use mir.ValLaws.{to_z-of_z}
 use Rattle.rules.specs.Dates.{Moment, moment_of, days_of, seconds_of, second_of_day}
-use Rattle.rules.specs.Dates.Range.{days-small, InRange, moment-in-range}
+use Rattle.rules.specs.Dates.Range.{InRange}
+use Rattle.rules.proofs.Dates.Range.{days-small, moment-in-range}
 use Rattle.stamps.proofs.moment_of.Goals as goal
 use Rattle.stamps.proofs.moment_of.Goals.{After-floor_div, After-floor_div-seconds}
 

@@ -1,5 +1,6 @@
 use mathlib.Core.Path.{refl, sym}
-use Rattle.rules.specs.Dates.Quick.{month_of, month_start, calendar_month-low, calendar_month-high, carry-low, carry-high}
+use Rattle.rules.specs.Dates.Quick.{month_of, month_start}
+use Rattle.rules.proofs.Dates.Quick.{calendar_month-low, calendar_month-high, carry-low, carry-high}
 use Rattle.stamps.proofs.month_day.Goals as goal
 
 pub returns-then-m-lt10 : goal.returns-then-m-lt10

@@ -9,7 +9,7 @@ use Rattle.rules.specs.Lists.Laws.{checked, check-at}
 use Rattle.rules.specs.Dates.{floor_div, floor_mod, leap_year, year_length, month_length, Date, Valid, total, epoch, day_number, Counted, cycle, year_off, month_off, date_in, date_of}
 use Rattle.rules.specs.Dates.Laws.{floor-law, mod_below, floor-of}
 use Rattle.rules.specs.Dates.Counting.{total-none, total-next, total-le, Placed, counted, counted-only}
-use Rattle.rules.specs.Dates.Years.{years_up, days_up, days-up, in_cycle, leap-repeats, start-repeats}
+use Rattle.rules.proofs.Dates.Years.{years_up, days_up, days-up, in_cycle, leap-repeats, start-repeats}
 
 -- ---- the day number of a date in a cycle
 abbrev pub date_as : ℤ → ℕ → ℕ → ℕ → Date
