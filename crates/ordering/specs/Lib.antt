@@ -3,8 +3,6 @@ pub mod Paths
 pub mod Keys
 pub mod Starts
 pub mod Turning
-pub mod PathOrder
-pub mod Chains
 pub mod Windows
 pub mod Pivots
 pub mod Regions

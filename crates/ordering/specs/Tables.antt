@@ -1,18 +1,18 @@
 -- Regions as a table holds them, and as keys: taken apart, put in order, and laid back they are the regions in order, and neighbours decide whether all are apart.
-use Rattle.std.specs.Prelude.{ℕ, ◌/◌, ◌%◌, ◌≤◌, ◌<◌, ◌≡◌, refl, Bool, true, ◌&&◌, List, [], ◌∷◌, map, leb}
+use Rattle.std.specs.Prelude.{ℕ, ◌/◌, ◌%◌, ◌≤◌, ◌<◌, ◌≡◌, true, List, [], ◌∷◌, map}
 use Rattle.std.proofs.Math.Path.{sym, ap₂}
 use Rattle.std.proofs.Common.{ap, ◌∙◌, subst, arith}
 use Rattle.std.proofs.Math.Decide.{dec_lt}
 use borrow.Author.Tests.{ltb-true}
-use Rattle.rules.specs.Lists.{every_two, only, All, Pairs, Perm}
+use Rattle.rules.specs.Lists.{only, All, Pairs, Perm}
 use Rattle.rules.specs.Index.{Entry}
-use Rattle.rules.specs.Regions.{Extent, extent_of, apart}
+use Rattle.rules.specs.Regions.{Extent, extent_of}
 use Rattle.rules.specs.RegionTable.{regions_of, extent_le, in_order}
-use Rattle.rules.proofs.RegionTable.Laws.{Comes, lower, level, le-says, le-holds, in-order-only, in-order-same, in-order-ascends}
+use Rattle.rules.proofs.RegionTable.Laws.{Comes, lower, level, le-says, le-holds, in-order-only}
 use Rattle.laws.proofs.Lists.Every.{all-weaken, all-and, all-only, all-chosen, all_map, pairs-map, map_same}
 use Rattle.laws.proofs.Lists.Parts.{map-map}
-use Rattle.laws.proofs.Lists.Perms.{perm-all, perm-map}
-use Rattle.ordering.specs.Regions.{extent_key, region_key, has_region, key_start, key_end, extents_in_turn, in_turn, Small, start_of, end_of, in-turn-decides}
+use Rattle.laws.proofs.Lists.Perms.{perm-map}
+use Rattle.ordering.specs.Regions.{extent_key, region_key, has_region, key_start, key_end, Small, start_of, end_of}
 
 -- the region of a key
 unfoldable pub key_extent : ℕ → Extent
@@ -25,11 +25,11 @@ pub record SmallExtent (x : Extent) : Type 0 where
 
 -- ---- the key of a region says the region
 module _ (x : Extent) (small : SmallExtent x) where
-  start_back : key_start (extent_key x) ≡ x.start
+  pub start_back : key_start (extent_key x) ≡ x.start
   unfolding key_start extent_key
   start_back = start_of x.start x.end small.below
 
-  end_back : key_end (extent_key x) ≡ x.end
+  pub end_back : key_end (extent_key x) ≡ x.end
   unfolding key_end extent_key
   end_back = end_of x.start x.end small.below
 
@@ -56,7 +56,7 @@ unfolding extent_key
 le-key x y small (lower l) = omega (arith, small.below)
 le-key x y small (level e l) = omega arith
 
-ascending-keys : (xs : List Extent) → All SmallExtent xs → Pairs (λ x y. extent_le x y ≡ true) xs → Pairs (λ a b. a / 65_536 ≤ b / 65_536) (map extent_key xs)
+pub ascending-keys : (xs : List Extent) → All SmallExtent xs → Pairs (λ x y. extent_le x y ≡ true) xs → Pairs (λ a b. a / 65_536 ≤ b / 65_536) (map extent_key xs)
 ascending-keys [] small p = tt
 ascending-keys (x ∷ xs) small p =
     (all_map (λ k. extent_key x / 65_536 ≤ k / 65_536) extent_key xs (all-weaken _ _ (λ y h. le-key x y small.0 (le-says x y h)) xs p.0), ascending-keys xs small.1 p.1)
@@ -66,13 +66,6 @@ pub sorted-extents : (xs : List Extent) (ks : List ℕ) → All SmallExtent xs �
 sorted-extents xs ks small p ascends =
     sym (in-order-only xs (map key_extent ks) (subst (λ (ys : List Extent). Perm ys (map key_extent ks)) (extents-back xs small) (perm-map key_extent p))
     (pairs-map _ (λ x y. extent_le x y ≡ true) key_extent key-le ks ascends))
-
--- ---- neighbours
-turn-extents : (b : ℕ) (xs : List Extent) → All SmallExtent xs → in_turn b (map extent_key xs) ≡ extents_in_turn b xs
-unfolding in_turn extents_in_turn
-turn-extents b [] small = refl
-turn-extents b (x ∷ xs) small =
-    ap₂ (λ (t u : Bool). t && u) (ap (leb b) (start_back x small.0)) (ap (λ (e : ℕ). in_turn e (map extent_key xs)) (end_back x small.0) ∙ turn-extents x.end xs small.1)
 
 -- ---- the regions of entries
 module _ (es : List Entry) (small : All Small es) where
@@ -84,7 +77,7 @@ module _ (es : List Entry) (small : All Small es) where
       (all-and Small _ (only has_region es) (all-only Small has_region es small) (all-chosen has_region es)))
 
   -- their keys
-  keys-of-regions : map region_key (only has_region es) ≡ map extent_key (regions_of es)
+  pub keys-of-regions : map region_key (only has_region es) ≡ map extent_key (regions_of es)
   unfolding region_key regions_of has_region
   keys-of-regions = sym (map-map extent_key extent_of (only has_region es))
 
@@ -92,12 +85,3 @@ module _ (es : List Entry) (small : All Small es) where
   pub regions-of-keys : (ks : List ℕ) → Perm (map region_key (only has_region es)) ks → Perm (regions_of es) (map key_extent ks)
   regions-of-keys ks p =
       subst (λ (xs : List Extent). Perm xs (map key_extent ks)) (ap (map key_extent) keys-of-regions ∙ extents-back (regions_of es) regions-small) (perm-map key_extent p)
-
-  -- NEIGHBOURS DECIDE: no two share a block exactly where each, in order, starts at or past the end of the one before it
-  pub neighbours-decide : every_two apart es ≡ extents_in_turn 0 (in_order (regions_of es))
-  neighbours-decide =
-      let xs = in_order (regions_of es) in
-      let low = perm-all SmallExtent (in-order-same (regions_of es)) regions-small in
-      in-turn-decides es (map extent_key xs) small (subst (λ (ks : List ℕ). Perm ks (map extent_key xs)) (sym keys-of-regions) (perm-map extent_key (in-order-same (regions_of es))))
-      (ascending-keys xs low (in-order-ascends (regions_of es)))
-      ∙ turn-extents 0 xs low

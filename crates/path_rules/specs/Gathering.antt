@@ -19,7 +19,7 @@ use Rattle.ordering.specs.Starts.{here-and-behind}
 use Rattle.ordering.specs.Turning.{turned-perm}
 use Rattle.ordering.specs.Keys.{place_of, key_le}
 use Rattle.ordering.specs.Paths.{path_le, no_slash, follows, entry_follows, chain_from, chain}
-use Rattle.ordering.specs.Chains.{chain-sound, chain-decides}
+use Rattle.ordering.proofs.Chains.{chain-sound, chain-decides}
 use Rattle.numbering.specs.Numbers.{loaded, loaded-place, Stands, loaded-stand, stands-le, key-path-is}
 use Rattle.editions.specs.View.{edition_view}
 use Rattle.slots.specs.declared.Spot.{Spot}

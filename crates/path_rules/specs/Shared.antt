@@ -14,7 +14,8 @@ use Rattle.ordering.specs.Order.{Sorted}
 use Rattle.ordering.specs.Paths.{follows}
 use Rattle.ordering.specs.Starts.{here-and-behind, zero-behind}
 use Rattle.ordering.specs.Keys.{number_of, place_of, key_path, key_le}
-use Rattle.ordering.specs.Pivots.{shared_by, shared-bytes}
+use Rattle.ordering.specs.Pivots.{shared_by}
+use Rattle.ordering.proofs.Pivots.{shared-bytes}
 use Rattle.numbering.specs.Numbers.{Numbered, path_bytes, loaded, loaded-stand}
 
 -- ---- two paths that have their first d bytes in common

@@ -17,7 +17,8 @@ use Rattle.rules.specs.RegionTable.{regions_of, in_order, apart_number, untabled
 use Rattle.rules.proofs.RegionTable.Laws.{perm-order, in-order-same, bounds-bad-regions, bounds-good, table-refused, table-short, table-told, sharing-sound, sharing-unsound}
 use Rattle.laws.proofs.Lists.Perms.{perm-all, perm-length}
 use Rattle.ordering.specs.Regions.{extent_key, extents_in_turn, Small}
-use Rattle.ordering.specs.Tables.{key_extent, SmallExtent, sorted-extents, regions-small, regions-of-keys, neighbours-decide}
+use Rattle.ordering.specs.Tables.{key_extent, SmallExtent, sorted-extents, regions-small, regions-of-keys}
+use Rattle.ordering.proofs.Tables.{neighbours-decide}
 use Rattle.geometry.specs.declared.Geometry.{Geometry}
 use Rattle.geometry.specs.View.{geometry_view}
 use Rattle.index.specs.declared.Cursor.{Cursor}

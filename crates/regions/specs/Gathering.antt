@@ -22,7 +22,8 @@ use Rattle.ordering.specs.Keys.{number_of, key_rest, key_le}
 use Rattle.ordering.specs.Paths.{path_le}
 use Rattle.ordering.specs.Starts.{here-and-behind}
 use Rattle.ordering.specs.Turning.{turned-perm}
-use Rattle.ordering.specs.Regions.{region_key, has_region, key_start, key_end, in_turn, Small, all-filled, in-turn-ascends, in-turn-decides}
+use Rattle.ordering.specs.Regions.{region_key, has_region, key_start, key_end, in_turn, Small, all-filled}
+use Rattle.ordering.proofs.Regions.{in-turn-ascends, in-turn-decides}
 use Rattle.editions.specs.View.{edition_view}
 use Rattle.slots.specs.declared.Head.{Head}
 use Rattle.slots.specs.View.{head_view}

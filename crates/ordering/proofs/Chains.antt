@@ -12,7 +12,7 @@ use Rattle.laws.proofs.Lists.Every.{not-both, is_false, same_test, all-weaken, a
 use Rattle.laws.proofs.Lists.Perms.{perm-all}
 use Rattle.laws.proofs.Entries.Paths.{Differ, DirectoriesLive, PathsGood, paths-says, paths-holds, paths-perm, paths-only}
 use Rattle.ordering.specs.Paths.{path_le, no_slash, entry_follows, chain_from, chain}
-use Rattle.ordering.specs.PathOrder.{path-refl, path-total, path-one, later-carries, later-differs, lead-none, none-leads, lead-before, follows-later, follows-leading, Suits, follows-holds}
+use Rattle.ordering.proofs.PathOrder.{path-refl, path-total, path-one, later-carries, later-differs, lead-none, none-leads, lead-before, follows-later, follows-leading, Suits, follows-holds}
 
 -- ---- the live entries alone
 directory-only : (es : List Entry) (d : List ℕ) → directory_live (only is_live es) d ≡ true → directory_live es d ≡ true
