@@ -1,5 +1,6 @@
 -- Regions gathered and put in order.
-use Rattle.std.specs.Prelude.{ℕ, ◌+◌, ◌/◌, ◌≤◌, ◌<◌, ◌≡◌, Bool, ◌&&◌, length, get_or, ltb, leb}
+use Rattle.std.specs.Prelude.{ℕ, ◌+◌, ◌/◌, ◌≤◌, ◌<◌, ◌≡◌, Bool, ◌&&◌, length, get_or, ltb, leb, Option, Some, None}
+use Rattle.std.specs.Bool.{then_some}
 use Rattle.std.proofs.Math.Path.{refl, ap}
 use Rattle.std.proofs.Common.{sym, ◌∙◌, arith, drop_of_length-le}
 use Rattle.std.proofs.Math.Bool.{true, false}
@@ -32,26 +33,22 @@ use Rattle.geometry.specs.View.{geometry_view}
 use Rattle.index.specs.declared.Cursor.{Cursor}
 use Rattle.index.specs.Steps.{Walks, Step, entries_from}
 use Rattle.index.specs.Turns.{all-next}
-use Rattle.regions.specs.declared.Gathered.{Gathered}
-use Rattle.regions.specs.declared.Gathered.TheVariants.{Bad, From}
-use Rattle.regions.specs.declared.Regions.{Regions}
-use Rattle.regions.specs.declared.Regions.TheVariants.{Unsound, From as InOrder}
 use Rattle.regions.specs.Bounds.{Bounded, within-true}
 
 -- the keys of the regions that entries have, the last one first
 unfoldable pub region_keys : List Entry → List ℕ
 region_keys es = turned (map region_key (only has_region es))
 
-unfoldable pub Gathers : List ℕ → Geometry → Cursor → List ℕ → Gathered → Type 0
-Gathers s g c keys Bad = all (region_good (geometry_view g)) (entries_from s c) ≡ false
-Gathers s g c keys (From i) = (all (region_good (geometry_view g)) (entries_from s c) ≡ true) × (i ≤ length keys) × (drop i keys ≡ region_keys (entries_from s c))
+unfoldable pub Gathers : List ℕ → Geometry → Cursor → List ℕ → Option ℕ → Type 0
+Gathers s g c keys None = all (region_good (geometry_view g)) (entries_from s c) ≡ false
+Gathers s g c keys (Some i) = (all (region_good (geometry_view g)) (entries_from s c) ≡ true) × (i ≤ length keys) × (drop i keys ≡ region_keys (entries_from s c))
 
-module _ (s : List ℕ) (g : Geometry) (c : Cursor) (keys : List ℕ) (r : Gathered) (h : Gathers s g c keys r) where
-  pub gathers-bad : r ≡ Bad → all (region_good (geometry_view g)) (entries_from s c) ≡ false
+module _ (s : List ℕ) (g : Geometry) (c : Cursor) (keys : List ℕ) (r : Option ℕ) (h : Gathers s g c keys r) where
+  pub gathers-bad : r ≡ None → all (region_good (geometry_view g)) (entries_from s c) ≡ false
   unfolding Gathers
   gathers-bad e = rw e at h
 
-  pub gathers-from : (i : ℕ) → r ≡ From i
+  pub gathers-from : (i : ℕ) → r ≡ Some i
       → (all (region_good (geometry_view g)) (entries_from s c) ≡ true) × (i ≤ length keys) × (drop i keys ≡ region_keys (entries_from s c))
   unfolding Gathers
   gathers-from i e = rw e at h
@@ -140,7 +137,7 @@ module _ (s : List ℕ) (g : Geometry) (from : Cursor) where
   }
 
   module _ (keys : List ℕ) (c : Cursor) (i : ℕ) (at : Gathering s g from keys c i) where
-    pub gather-end : entries_from s c ≡ [] → Gathers s g from keys (From i)
+    pub gather-end : entries_from s c ≡ [] → Gathers s g from keys (Some i)
     unfolding Gathers region_keys all only turned
     gather-end e =
         (sym at.good ∙ rw e, at.inside, ap (λ (es : List Entry). region_keys es ++ drop i keys) (sym e) ∙ at.gathered)
@@ -237,29 +234,37 @@ module _ (s : List ℕ) (g : Geometry) (bounded : Bounded g) (c : Cursor) (good 
     keys-decide r o = o.turns ∙ sym (in-turn-decides (entries_from s c) after all_small (keys-same o.same) (keys-ascend r o))
 
 -- ---- THE JUDGEMENT
-unfoldable pub JudgesRegions : List ℕ → Geometry → Cursor → List ℕ → Regions → Type 0
-JudgesRegions s g c keys Unsound = regions_sound (geometry_view g) (entries_from s c) ≡ false
-JudgesRegions s g c keys (InOrder i) =
+unfoldable pub JudgesRegions : List ℕ → Geometry → Cursor → List ℕ → Option ℕ → Type 0
+JudgesRegions s g c keys None = regions_sound (geometry_view g) (entries_from s c) ≡ false
+JudgesRegions s g c keys (Some i) =
     (regions_sound (geometry_view g) (entries_from s c) ≡ true) × HasRegions (entries_from s c) (drop i keys)
 
-module _ (s : List ℕ) (g : Geometry) (c : Cursor) (keys : List ℕ) (r : Regions) (h : JudgesRegions s g c keys r) where
-  pub regions-unsound : r ≡ Unsound → regions_sound (geometry_view g) (entries_from s c) ≡ false
+module _ (s : List ℕ) (g : Geometry) (c : Cursor) (keys : List ℕ) (r : Option ℕ) (h : JudgesRegions s g c keys r) where
+  pub regions-unsound : r ≡ None → regions_sound (geometry_view g) (entries_from s c) ≡ false
   unfolding JudgesRegions
   regions-unsound e = rw e at h
 
-  pub regions-from : (i : ℕ) → r ≡ InOrder i → (regions_sound (geometry_view g) (entries_from s c) ≡ true) × HasRegions (entries_from s c) (drop i keys)
+  pub regions-from : (i : ℕ) → r ≡ Some i → (regions_sound (geometry_view g) (entries_from s c) ≡ true) × HasRegions (entries_from s c) (drop i keys)
   unfolding JudgesRegions
   regions-from i e = rw e at h
 
 module _ (s : List ℕ) (g : Geometry) (bounded : Bounded g) (c : Cursor) (good : all (region_good (geometry_view g)) (entries_from s c) ≡ true) (keys kept : List ℕ) (i : ℕ)
     (is : keys ≡ region_keys (entries_from s c)) (r : Bool) (o : Ordered keys (drop i kept) r) where
-  pub ordered-unsound : r ≡ false → JudgesRegions s g c kept Unsound
+  pub ordered-unsound : r ≡ false → JudgesRegions s g c kept None
   unfolding JudgesRegions regions_sound
   ordered-unsound f = rw good (sym (keys-decide s g bounded c good keys (drop i kept) is r o) ∙ f)
 
-  pub ordered-from : r ≡ true → JudgesRegions s g c kept (InOrder i)
+  pub ordered-from : r ≡ true → JudgesRegions s g c kept (Some i)
   unfolding JudgesRegions regions_sound
   ordered-from f = (rw good (sym (keys-decide s g bounded c good keys (drop i kept) is r o) ∙ f), keys-held s g bounded c good keys (drop i kept) is r o)
+
+  -- the place goes with the answer of the order
+  pub ordered-judged : JudgesRegions s g c kept (then_some r i)
+  ordered-judged = by r refl
+    where
+      by : (t : Bool) → r ≡ t → JudgesRegions s g c kept (then_some t i)
+      by true f = ordered-from f
+      by false f = ordered-unsound f
 
 -- sound regions are small
 pub sound-small : (s : List ℕ) (g : Geometry) → Bounded g → (c : Cursor) → regions_sound (geometry_view g) (entries_from s c) ≡ true → All Small (entries_from s c)

@@ -93,13 +93,6 @@ fn regions_apart(a: Head, b: Head) -> bool
 // Above the end of a region, which is less, a key has its start.
 const ENDS: u64 = 131_072;
 
-// The regions of entries, gathered from the end of a lent slice on: where they begin, unless one is not good.
-#[derive(Clone, Copy)]
-pub enum Gathered {
-    Bad,
-    From(usize),
-}
-
 // The start and the end of a region as one number, with no place below it.
 pub fn key_at(start: Block, end: Block) -> u64
     requires { SmallExtent (record { start = start.0; end = end.0 }) }
@@ -129,8 +122,9 @@ fn put_region(keys: &mut [u64], i: usize, h: Head) -> usize
     put_before(keys, i, key)
 }
 
-// The regions of all entries from the cursor on, the last one first: those of an index that creates made are in order then.
-pub fn gather(img: &[u8], sums: &[u8], g: Geometry, from: Cursor, keys: &mut [u64]) -> Gathered
+// The regions of all entries from the cursor on, gathered from the end of the lent slice on, the last one first: those of an index that creates made
+// are in order then. Where they begin, unless one is not good.
+pub fn gather(img: &[u8], sums: &[u8], g: Geometry, from: Cursor, keys: &mut [u64]) -> Option<usize>
     requires { Bounded g × Walks img.now from × (from.left ≤ length keys.old) × SumsFrom img.now sums.now from }
     ensures { Gathers img.now g from keys.new result }
 {
@@ -138,10 +132,10 @@ pub fn gather(img: &[u8], sums: &[u8], g: Geometry, from: Cursor, keys: &mut [u6
     let mut i = keys.len();
     loop {
         match index::next_entry(img, sums, c) {
-            Next::End => return Gathered::From(i),
+            Next::End => return Some(i),
             Next::Found(e, rest) => {
                 if !region_good(g, e) {
-                    return Gathered::Bad;
+                    return None;
                 }
                 i = put_region(keys, i, e);
                 c = rest;
@@ -201,14 +195,8 @@ fn order(keys: &mut [u64], i: usize, tmp: &mut [u64]) -> bool
     in_turn(keys, i)
 }
 
-// Regions judged; if they are sound, their keys stand in order from a place of the lent slice on.
-#[derive(Clone, Copy)]
-pub enum Regions {
-    Unsound,
-    From(usize),
-}
-
-// The regions of the entries from the cursor on, judged, their keys left in `keys`; tmp is scratch.
+// The regions of the entries from the cursor on, judged: if they are sound, the place in `keys` from which on their keys stand in order; tmp is
+// scratch.
 pub fn judge_regions(
     img: &[u8],
     sums: &[u8],
@@ -216,19 +204,12 @@ pub fn judge_regions(
     from: Cursor,
     keys: &mut [u64],
     tmp: &mut [u64],
-) -> Regions
+) -> Option<usize>
     requires { Bounded g × Walks img.now from × (from.left ≤ length keys.old) × (length keys.old ≤ length tmp.old) × SumsFrom img.now sums.now from }
     ensures { JudgesRegions img.now g from keys.new result }
 {
-    match gather(img, sums, g, from, keys) {
-        Gathered::Bad => Regions::Unsound,
-        Gathered::From(i) => {
-            if !order(keys, i, tmp) {
-                return Regions::Unsound;
-            }
-            Regions::From(i)
-        }
-    }
+    let i = gather(img, sums, g, from, keys)?;
+    order(keys, i, tmp).then_some(i)
 }
 
 // ---- the plain engine: each region against every later one
