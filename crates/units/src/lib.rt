@@ -12,15 +12,15 @@ pub const SLOT_BYTES: u64 = 64;
 
 // A block number, from the start of the media, or the block past a region's end. A table of regions that C lends has it as a number.
 #[repr(C)]
-#[derive(Clone, Copy)]
+#[derive(Clone, Copy, Debug, PartialEq, Eq, PartialOrd, Ord)]
 pub struct Block(u64);
 
 // A slot number of the index area.
-#[derive(Clone, Copy)]
+#[derive(Clone, Copy, Debug, PartialEq, Eq, PartialOrd, Ord)]
 pub struct Slot(u64);
 
 // A place in the image, in bytes.
-#[derive(Clone, Copy)]
+#[derive(Clone, Copy, Debug, PartialEq, Eq, PartialOrd, Ord)]
 pub struct Offset(usize);
 
 impl Block {
@@ -61,7 +61,7 @@ impl Block {
     pub fn blocks_past(self, from: Block) -> u64
         ensures { result ≡ self.0 - from.0 }
     {
-        if self.0 < from.0 { 0 } else { self.0 - from.0 }
+        self.0.saturating_sub(from.0)
     }
 
     // The first byte of the block; `len` is the block length.
