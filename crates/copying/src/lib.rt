@@ -2,22 +2,18 @@
 
 #![tactic(auto)]
 
-ghost use Rattle.std.specs.Prelude.{◌≡◌, ◌+◌, ◌-◌, ◌*◌, ◌≤◌, ◌<◌, length, replicate};
+ghost use Rattle.std.specs.Prelude.{◌≡◌, ◌+◌, ◌-◌, ◌*◌, ◌≤◌, ◌<◌, ◌++◌, length, drop, replicate};
 ghost use Rattle.rules.specs.Lists.{padded, part};
 ghost use Rattle.rules.specs.Fields.{splice};
 
 use units::{Block, Offset};
 
-// The first bytes of dst become src; the others stay.
-pub fn copy_into(dst: &mut [u8], src: &[u8])
+// The first elements of dst become src; the others stay.
+pub fn copy_into<T: Copy>(dst: &mut [T], src: &[T])
     requires { length src.now ≤ length dst.old }
-    ensures { dst.new ≡ splice dst.old 0 src.now }
+    ensures { dst.new ≡ src.now ++ drop (length src.now) dst.old }
 {
-    let mut i: usize = 0;
-    while i < src.len() {
-        dst[i] = src[i];
-        i += 1;
-    }
+    dst[..src.len()].copy_from_slice(src);
 }
 
 // The bytes of dst from `from` on become zero.
@@ -25,11 +21,7 @@ pub fn zero_from(dst: &mut [u8], from: usize)
     requires { from ≤ length dst.old }
     ensures { dst.new ≡ splice dst.old from (replicate (length dst.old - from) 0) }
 {
-    let mut i: usize = from;
-    while i < dst.len() {
-        dst[i] = 0;
-        i += 1;
-    }
+    dst[from..].fill(0);
 }
 
 // dst becomes src, with zeros behind it.

@@ -25,7 +25,7 @@ pub fn put_bytes(out: &mut [u8], at: usize, src: &[u8]) -> usize
     ensures { Wrote out.old at src.now out.new result }
 {
     let end = at + src.len();
-    copying::copy_into(&mut out[at..end], src);
+    out[at..end].copy_from_slice(src);
     end
 }
 
@@ -33,12 +33,6 @@ fn digit_of(n: u64) -> u8
     ensures { result ≡ digit n }
 {
     b'0' + (n % 10) as u8
-}
-
-fn one_less(w: u64) -> u64
-    ensures { result ≡ w - 1 }
-{
-    if w < 1 { 0 } else { w - 1 }
 }
 
 // The number n in decimal, with zeros in front where it has fewer than w digits: the last digit stands behind those of n / 10.
@@ -50,7 +44,7 @@ pub fn put_number(out: &mut [u8], at: usize, n: u64, w: u64) -> usize
     if n < 10 && w < 2 {
         return put_byte(out, at, last);
     }
-    let end = put_number(out, at, n / 10, one_less(w));
+    let end = put_number(out, at, n / 10, w.saturating_sub(1));
     put_byte(out, end, last)
 }
 

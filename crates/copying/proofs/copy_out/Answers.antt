@@ -2,6 +2,7 @@ use Prim.Native.Nat.{◌+◌, ◌-◌}
 use mathlib.Core.Path.{◌≡◌, ◌∙◌}
 use native.Mathlib.Omega.{arith}
 use Rattle.rules.specs.Lists.{part}
+use Rattle.copying.specs.Front.{copied}
 use Rattle.copying.proofs.copy_out.Goals as goal
 
 pub returns : goal.returns
@@ -10,4 +11,4 @@ returns c =
     let a = c.args in
     let x = c.index-start.result in
     let w : x + a.n - x ≡ a.n = omega arith in
-    c.copy_into.ensures ∙ rw (w, c.index-start.ensures)
+    copied a.out.now _ _ c.copy_into.ensures ∙ rw (w, c.index-start.ensures)

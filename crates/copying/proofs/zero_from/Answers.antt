@@ -1,18 +1,15 @@
-use Prim.Native.Nat.{◌-◌}
-use mathlib.Core.Path.{◌≡◌, refl, sym, ◌∙◌}
-use native.Mathlib.Omega.{arith}
-use lib.ListN.{length, length-set}
-use Rattle.rules.specs.Fields.Laws.{splice-nil, fill-turn}
+use Rattle.std.proofs.Common.{◌≡◌, ◌-◌, ◌∙◌, ap, length, replicate, arith}
+use Rattle.std.proofs.lemmas.List.{length-replicate}
+use borrow.Rule.Slice.PartMut.{mid_of, mid_len}
+use Rattle.rules.specs.Fields.{splice}
+use Rattle.rules.specs.Fields.Laws.{lent_back}
 use Rattle.copying.proofs.zero_from.Goals as goal
-
-pub loop-i-init : goal.loop-i-init
-loop-i-init c = (omega arith, refl, refl)
-
-pub loop-i-preserved : goal.loop-i-preserved
-loop-i-preserved c = (omega arith, simp length-set (omega arith), fill-turn _ _ _ _ (omega arith) (omega arith) ∙ c.loop-i.invariant.2)
 
 pub returns : goal.returns
 returns c =
-    let l = c.loop-i in
-    let z : length c.args.dst.now - l.i ≡ 0 = omega arith in
-    sym (splice-nil l.dst l.i) ∙ (rw z at l.invariant.2)
+    let s = c.args.dst.now in
+    let a = c.args.from in
+    let n = length s - a in
+    let m : length (mid_of a n s) ≡ n = mid_len a (length s) s (omega arith) in
+    let z : c.fill.new.self ≡ replicate n 0 = c.fill.ensures.after (λ y e. e) ∙ rw m in
+    lent_back s a (length s) c.fill.new.self (omega arith) (omega arith) (ap length z ∙ length-replicate n 0) ∙ ap (splice s a) z

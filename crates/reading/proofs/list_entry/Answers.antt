@@ -2,6 +2,7 @@ use mathlib.Core.Path.{sym, ◌∙◌}
 use Rattle.slots.specs.View.{head_view}
 use Rattle.contracts.specs.Promises.Laws.{listed-outcome}
 use Rattle.rules.specs.Reading.Laws.{path-short, path-done}
+use Rattle.copying.specs.Front.{copied}
 use Rattle.reading.proofs.list_entry.Goals as goal
 
 pub returns-then-out-n : goal.returns-then-out-n
@@ -14,4 +15,4 @@ returns c =
     let a = c.args in
     let s = a.img.now in
     listed-outcome _ _ _ _ c.listed_numbers.ensures.0 (c.listed_numbers.ensures.1 s)
-    ∙ rw (c.copy_into.ensures, c.path_of-path.ensures) (sym (path-done _ s (head_view s a.h) _ (rw (← c.path_of-path.ensures) c.if-out-n.false)))
+    ∙ rw (copied a.out.now _ _ c.copy_into.ensures, c.path_of-path.ensures) (sym (path-done _ s (head_view s a.h) _ (rw (← c.path_of-path.ensures) c.if-out-n.false)))

@@ -4,6 +4,7 @@ use lib.ListN.{length}
 use Rattle.rules.specs.Reading.Laws.{open-short, open_done}
 use Rattle.judging.specs.View.{opened-super, opened-long}
 use Rattle.contracts.specs.Promises.Laws.{volume-outcome}
+use Rattle.copying.specs.Front.{copied}
 use Rattle.reading.proofs.open_volume.Goals as goal
 
 pub volume_name-name-requires : goal.volume_name-name-requires
@@ -18,4 +19,4 @@ volume_numbers-requires c = (omega (arith, opened-long _ _ c.requires), (opened-
 pub returns : goal.returns
 returns c =
     volume-outcome _ _ _ _ c.volume_numbers.ensures.0 c.volume_numbers.ensures.1
-    ∙ rw (c.copy_into.ensures, c.volume_name-name.ensures) (sym (open_done _ _ c.requires _ (rw (← c.volume_name-name.ensures) c.if-out-n.false)))
+    ∙ rw (copied c.args.out.now _ _ c.copy_into.ensures, c.volume_name-name.ensures) (sym (open_done _ _ c.requires _ (rw (← c.volume_name-name.ensures) c.if-out-n.false)))

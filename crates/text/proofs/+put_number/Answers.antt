@@ -9,7 +9,7 @@ use Rattle.rules.specs.Text.{digit, decimal, widened}
 use Rattle.rules.specs.Text.Laws.{wide_low, wide_high}
 use Rattle.text.specs.Wrote.{wrote-both}
 use Rattle.text.proofs.+put_number.Goals as goal
-use Rattle.text.proofs.+put_number.Goals.{else-n-lt10-via-then-n-lt10+else-w-lt2, else-n-lt10-via-else-n-lt10, After-one_less}
+use Rattle.text.proofs.+put_number.Goals.{else-n-lt10-via-then-n-lt10+else-w-lt2, else-n-lt10-via-else-n-lt10, After-saturating_sub}
 
 shrinks : (n w : ℕ) → (n < 10 → 2 ≤ w) → n / 10 + (w - 1) < n + w
 shrinks n w h = go (dec_lt n 10)
@@ -28,26 +28,26 @@ returns-then-w-lt2 t c =
     let a = c.args in
     rw (wide_low a.w a.n c.if-n-lt10.true (omega arith), ← c.digit_of-last.ensures) c.put_byte.ensures
 
-more : (t : ℕ) (c : After-one_less t) → c.args.n < 10 → 2 ≤ c.args.w
+more : (t : ℕ) (c : After-saturating_sub t) → c.args.n < 10 → 2 ≤ c.args.w
 more t c h = elim c.else-n-lt10.branch [ else-n-lt10-via-then-n-lt10+else-w-lt2 w ↦ omega arith | else-n-lt10-via-else-n-lt10 w ↦ absurd (omega arith) ]
 
 -- the last digit behind the others
-high : (t : ℕ) (c : After-one_less t) → widened c.args.w (decimal c.args.n) ≡ widened c.one_less.result (decimal (c.args.n / 10)) ++ (digit c.args.n ∷ [])
-high t c = rw c.one_less.ensures (wide_high c.args.w c.args.n (more t c))
+high : (t : ℕ) (c : After-saturating_sub t) → widened c.args.w (decimal c.args.n) ≡ widened c.saturating_sub.result (decimal (c.args.n / 10)) ++ (digit c.args.n ∷ [])
+high t c = rw c.saturating_sub.ensures (wide_high c.args.w c.args.n (more t c))
 
-room : (t : ℕ) (c : After-one_less t) → c.args.at + (length (widened c.one_less.result (decimal (c.args.n / 10))) + 1) ≤ length c.args.out.now
+room : (t : ℕ) (c : After-saturating_sub t) → c.args.at + (length (widened c.saturating_sub.result (decimal (c.args.n / 10))) + 1) ≤ length c.args.out.now
 room t c = omega (arith, simp length-append at (ap length (high t c)))
 
 pub put_number-end-requires : goal.put_number-end-requires
 put_number-end-requires t c =
-    let b = (goal.at.put_number-end-requires t c).After-one_less in
+    let b = (goal.at.put_number-end-requires t c).After-saturating_sub in
     (omega (arith, shrinks c.args.n c.args.w (more t b)), omega (arith, room t b))
 
 pub put_byte-requires-2 : goal.put_byte-requires-2
-put_byte-requires-2 t c = omega (arith, room t (goal.at.put_byte-requires-2 t c).After-one_less)
+put_byte-requires-2 t c = omega (arith, room t (goal.at.put_byte-requires-2 t c).After-saturating_sub)
 
 pub returns : goal.returns
 returns t c =
-    let b = (goal.at.returns t c).After-one_less in
+    let b = (goal.at.returns t c).After-saturating_sub in
     rw (high t b, ← c.digit_of-last.ensures)
     (wrote-both _ _ _ _ _ _ _ _ (omega (arith, room t b)) c.put_number-end.ensures c.put_byte-2.ensures)
