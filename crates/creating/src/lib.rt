@@ -6,17 +6,18 @@ ghost use Rattle.rules.specs.Fields.{signed_of};
 ghost use Rattle.contracts.specs.Promises.{Creates};
 ghost use Rattle.placing.specs.Site.{new_of};
 
+use placing::New;
 use planning::Plan;
 
-// A file with these bytes, or a directory, whose bytes are not looked at.
-pub fn create(img: &mut [u8], file: bool, path: &[u8], bytes: &[u8], stamp: u64) -> u32
-    ensures { Creates img.old (new_of file bytes.now) path.now (signed_of stamp) result img.new }
+// What is new, or the refusal.
+pub fn create(img: &mut [u8], new: New) -> u32
+    ensures { Creates img.old (new_of new.entry.made) new.entry.path.now (signed_of new.entry.stamp) result img.new }
 {
-    match planning::plan_create(img, file, path, bytes, stamp) {
+    match planning::plan_create(img, new) {
         Plan::Refused(n) => n as u32,
         Plan::At(p) => {
             tidying::tidy(img, p.old);
-            placing::place(img, p, file, path, bytes, stamp);
+            placing::place(img, p, new);
             0
         }
     }

@@ -1,14 +1,14 @@
 -- What the parts of a create leave, put together.
-use Rattle.std.specs.Prelude.{ℕ, ◌+◌, ◌-◌, ◌*◌, ◌≤◌, ◌≡◌, Bool, true, false, List, [], length, ℤ}
+use Rattle.std.specs.Prelude.{ℕ, ◌+◌, ◌-◌, ◌*◌, ◌≤◌, ◌≡◌, List, length, ℤ}
 use Rattle.std.proofs.Common.{ap, ap₂, ◌∙◌, arith}
 use Rattle.rules.specs.Lists.{padded}
 use Rattle.rules.specs.Fields.{splice, signed_of}
 use Rattle.rules.specs.Editions.{stored_end}
 use Rattle.rules.specs.Editions.Laws.{past-stored}
 use Rattle.rules.specs.SuperBlock.{block_length, put_sizes}
-use Rattle.rules.specs.Index.{Entry, name_at, slot_at, slot_bytes, run_bytes, type_file, type_directory}
+use Rattle.rules.specs.Index.{Entry, name_at, slot_at, slot_bytes, run_bytes}
 use Rattle.rules.specs.Index.Laws.{continuing-room}
-use Rattle.rules.specs.Writing.{Site as Placing, kind_of, bytes_of, new_entry, put_marker, created}
+use Rattle.rules.specs.Writing.{Site as Placing, New, kind_of, bytes_of, new_entry, put_marker, created}
 use Rattle.laws.proofs.Index.Slots.{slot-at}
 use Rattle.editions.specs.View.{edition_view}
 use Rattle.geometry.specs.View.{geometry_view}
@@ -17,7 +17,7 @@ use Rattle.units.specs.declared.Offset.{Offset}
 use Rattle.slots.specs.declared.Head.{Head}
 use Rattle.runs.specs.Written.{run_entry}
 use Rattle.placing.specs.declared.Site.{Site}
-use Rattle.placing.specs.Site.{new_of, site_view, BlocksIn, SiteIn}
+use Rattle.placing.specs.Site.{site_view, BlocksIn, SiteIn, NewIn}
 
 -- ---- the blocks
 abbrev pub blocks_image : List ℕ → Placing → List ℕ → List ℕ
@@ -96,12 +96,11 @@ module _ (n kind : ℕ) (path bytes : List ℕ) (p : Site) (i : SiteIn n kind pa
       → s₄ ≡ site_image s kind path bytes (signed_of stamp) (site_view p)
   site-put s long s₁ s₂ s₃ s₄ e₁ e₂ e₃ e₄ = rw (e₄, e₃, e₂, e₁, is, slot-at, long, past-stored (edition_view p.new.edition) p.end.0 i.past)
 
--- ---- as a program is told what is new
-module _ (s path bytes : List ℕ) (p : Placing) (file : Bool) (stamp : ℤ) where
-  pub file-image : file ≡ true → site_image s type_file path bytes stamp p ≡ created s p (new_of file bytes) path stamp
-  unfolding created new_entry new_of kind_of bytes_of
-  file-image e = rw e
+-- ---- what is new, by its kind and its bytes
+module _ (new : New) (path : List ℕ) (p : Site) (kind : ℕ) (kind-is : kind ≡ kind_of new) (bytes : List ℕ) (bytes-are : bytes ≡ bytes_of new) where
+  pub new-in : (n : ℕ) → NewIn n new path (site_view p) → SiteIn n kind path bytes (site_view p)
+  new-in n i = rw (kind-is, bytes-are) i
 
-  pub directory-image : file ≡ false → site_image s type_directory path [] stamp p ≡ created s p (new_of file bytes) path stamp
-  unfolding created new_entry new_of kind_of bytes_of
-  directory-image e = rw e
+  pub new-image : (s : List ℕ) (stamp : ℤ) → site_image s kind path bytes stamp (site_view p) ≡ created s (site_view p) new path stamp
+  unfolding created new_entry
+  new-image s stamp = rw (kind-is, bytes-are)

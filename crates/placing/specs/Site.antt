@@ -1,32 +1,17 @@
 -- A site in the rules' words, and that all of it lies in the image.
-use Rattle.std.specs.Prelude.{ℕ, ◌+◌, ◌-◌, ◌*◌, ◌≤◌, ◌≡◌, Bool, true, false, List, [], length}
+use Rattle.std.specs.Prelude.{ℕ, ◌+◌, ◌-◌, ◌*◌, ◌≤◌, ◌≡◌, List, length}
 use Rattle.rules.specs.SuperBlock.{block_length}
-use Rattle.rules.specs.Index.{continuing, slot_bytes, type_file, type_directory}
+use Rattle.rules.specs.Index.{continuing, slot_bytes}
 use Rattle.rules.specs.Writing.{Site as Placing, New, new_file, new_directory, kind_of, bytes_of}
 use Rattle.geometry.specs.View.{geometry_view}
+use Rattle.placing.specs.declared.Made.{Made}
+use Rattle.placing.specs.declared.Made.TheVariants.{File, Directory}
 use Rattle.placing.specs.declared.Site.{Site}
 
--- ---- what is created, as a program is told it: a file with these bytes, or a directory
-unfoldable pub new_of : Bool → List ℕ → New
-new_of true bytes = new_file bytes
-new_of false bytes = new_directory
-
-module _ (file : Bool) (bytes : List ℕ) where
-  pub kind-file : file ≡ true → kind_of (new_of file bytes) ≡ type_file
-  unfolding new_of kind_of
-  kind-file e = rw e
-
-  pub kind-directory : file ≡ false → kind_of (new_of file bytes) ≡ type_directory
-  unfolding new_of kind_of
-  kind-directory e = rw e
-
-  pub bytes-file : file ≡ true → bytes_of (new_of file bytes) ≡ bytes
-  unfolding new_of bytes_of
-  bytes-file e = rw e
-
-  pub bytes-directory : file ≡ false → bytes_of (new_of file bytes) ≡ []
-  unfolding new_of bytes_of
-  bytes-directory e = rw e
+-- ---- what is new
+unfoldable pub new_of : Made → New
+new_of (File bytes) = new_file bytes.now
+new_of Directory = new_directory
 
 -- ---- where it goes
 abbrev pub site_view : Site → Placing

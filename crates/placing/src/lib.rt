@@ -5,13 +5,52 @@
 ghost use Rattle.std.specs.Prelude.{◌≡◌, ◌*◌, ◌≤◌, length};
 ghost use Rattle.rules.specs.Fields.{signed_of};
 ghost use Rattle.rules.specs.Index.{slot_bytes};
-ghost use Rattle.rules.specs.Writing.{created};
-ghost use Rattle.placing.specs.Site.{new_of, site_view, BlocksIn, SiteIn, NewIn};
-ghost use Rattle.placing.specs.Placed.{blocks_image, site_head, site_image};
+ghost use Rattle.rules.specs.Writing.{created, kind_of, bytes_of};
+ghost use Rattle.placing.specs.Site.{new_of, site_view, BlocksIn, NewIn};
+ghost use Rattle.placing.specs.Placed.{blocks_image, site_head};
 
 use geometry::Geometry;
 use slots::Head;
 use units::{Block, Slot};
+
+// ---- what is new
+
+// A file with these bytes, or a directory, which has none.
+#[derive(Clone, Copy)]
+pub enum Made<'a> {
+    File(&'a [u8]),
+    Directory,
+}
+
+impl<'a> Made<'a> {
+    // The type field of its run.
+    pub fn kind(self) -> u8
+        ensures { result ≡ kind_of (new_of self.entry) }
+    {
+        match self {
+            Made::File(_) => slots::FILE,
+            Made::Directory => slots::DIRECTORY,
+        }
+    }
+
+    // The bytes of its region.
+    pub fn bytes(self) -> &'a [u8]
+        ensures { result.now ≡ bytes_of (new_of self.entry) }
+    {
+        match self {
+            Made::File(bytes) => bytes,
+            Made::Directory => b"",
+        }
+    }
+}
+
+// What a create is asked to make, by this path and with this stamp.
+#[derive(Clone, Copy)]
+pub struct New<'a> {
+    pub made: Made<'a>,
+    pub path: &'a [u8],
+    pub stamp: u64,
+}
 
 // Where a create puts what it makes: the geometry before and after, the run's first slot and its slots (in the index after any growth),
 // and the file's region.
@@ -61,26 +100,21 @@ fn head_of(len: u64, p: Site, kind: u8, bytes: u64, stamp: u64) -> Head
     }
 }
 
-// What is new, by its kind and its bytes. The super-block, the index and the region are written in this order.
-fn put_new(img: &mut [u8], p: Site, kind: u8, path: &[u8], bytes: &[u8], stamp: u64)
-    requires { SiteIn (length img.old) kind path.now bytes.now (site_view p) }
-    ensures { img.new ≡ site_image img.old kind path.now bytes.now (signed_of stamp) (site_view p) }
+// What is new, at its site. The super-block, the index and the region are written in this order.
+pub fn place(img: &mut [u8], p: Site, new: New)
+    requires { NewIn (length img.old) (new_of new.made) new.path.now (site_view p) }
+    ensures { img.new ≡ created img.old (site_view p) (new_of new.entry.made) new.entry.path.now (signed_of new.entry.stamp) }
 {
-    let h = head_of(img.len() as u64, p, kind, bytes.len() as u64, stamp);
+    let bytes = new.made.bytes();
+    let h = head_of(
+        img.len() as u64,
+        p,
+        new.made.kind(),
+        bytes.len() as u64,
+        new.stamp,
+    );
     super_block::put_sizes(img, p.new);
     ends::move_marker(img, p.old, p.new);
-    runs::put_run(img, h, path);
+    runs::put_run(img, h, new.path);
     put_blocks(img, p, bytes);
-}
-
-// A file with these bytes, or a directory, of which no bytes are written.
-pub fn place(img: &mut [u8], p: Site, file: bool, path: &[u8], bytes: &[u8], stamp: u64)
-    requires { NewIn (length img.old) (new_of file bytes.now) path.now (site_view p) }
-    ensures { img.new ≡ created img.old (site_view p) (new_of file bytes.now) path.now (signed_of stamp) }
-{
-    if file {
-        put_new(img, p, slots::FILE, path, bytes, stamp);
-    } else {
-        put_new(img, p, slots::DIRECTORY, path, b"", stamp);
-    }
 }

@@ -1,6 +1,6 @@
 -- Places for a run and for a file's blocks, by the tests that the code makes.
 use Prim.Native.Nat.{ℕ, zero, suc, ◌+◌, ◌-◌, ◌*◌, ◌/◌, ◌%◌, ◌≤◌, ◌<◌}
-use Rattle.std.specs.Prelude.{◌≡◌, Bool, true, false, ◌&&◌, List, eqb, ℤ}
+use Rattle.std.specs.Prelude.{◌≡◌, Bool, true, false, ◌&&◌, List, eqb, ℤ, Option as Maybe, Some, None}
 use Rattle.std.proofs.Math.Path.{refl, sym, ap}
 use Rattle.std.proofs.Common.{ap₂, ◌∙◌}
 use Rattle.std.proofs.Math.Option.{Option, none, some}
@@ -23,17 +23,16 @@ use Rattle.laws.proofs.Images.Placing.{new_geometry}
 use Rattle.editions.specs.View.{edition_view}
 use Rattle.geometry.specs.View.{geometry_view, areas_fit}
 use Rattle.geometry.specs.declared.Geometry.{Geometry as Held}
+use Rattle.units.specs.declared.Slot.{Slot}
 use Rattle.index.specs.declared.Cursor.{Cursor}
 use Rattle.index.specs.View.{Inside, items_from}
 use Rattle.places.specs.Cut.{PlacesFor}
 use Rattle.free_runs.specs.declared.Free.{Free}
 use Rattle.free_runs.specs.View.{free_view}
-use Rattle.planning.specs.declared.RunPlace.{RunPlace}
-use Rattle.planning.specs.declared.RunPlace.TheVariants.{Nothing, At}
 
-abbrev pub place_view : RunPlace → Option Place
-place_view Nothing = none
-place_view (At k g) = some (record { slot = k.0; geometry = geometry_view g })
+abbrev pub place_view : Maybe (Slot × Held) → Option Place
+place_view None = none
+place_view (Some p) = some (record { slot = p.0.0; geometry = geometry_view p.1 })
 
 -- the cursor at the first slot of the index that g says
 abbrev pub Begins : List ℕ → Held → Cursor → Type 0
@@ -136,7 +135,7 @@ module _ (n : ℕ) (g : Geometry) (es : List Entry) where
   place-past r (suc k) start p e = omega (arith, (lowest-is es (suc k) g.reserved (ceiling_block n g) (some start) p).0)
 
 -- ---- what an answer says, by what it is
-pub run-says : (n : ℕ) (v : Volume) (path : List ℕ) (slots : ℕ) (r x : RunPlace) → place_view r ≡ place_run n v path slots → r ≡ x
+pub run-says : (n : ℕ) (v : Volume) (path : List ℕ) (slots : ℕ) (r x : Maybe (Slot × Held)) → place_view r ≡ place_run n v path slots → r ≡ x
     → (m : ℕ) → slots ≡ m → place_run n v path m ≡ place_view x
 run-says n v path slots r x told e m k = ap (place_run n v path) (sym k) ∙ sym told ∙ ap place_view e
 

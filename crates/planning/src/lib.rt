@@ -7,8 +7,7 @@ ghost use Rattle.rules.specs.Fields.{signed_of};
 ghost use Rattle.rules.specs.SuperBlock.{grow_index};
 ghost use Rattle.rules.specs.SuperBlock.Laws.{GoodGeometry};
 ghost use Rattle.rules.specs.Index.{Entry, slot_bytes};
-ghost use Rattle.rules.specs.Writing.{new_slots, new_blocks, grown_place, place_run, place_file};
-ghost use Rattle.editions.specs.View.{edition_view};
+ghost use Rattle.rules.specs.Writing.{grown_place, place_run, place_file};
 ghost use Rattle.geometry.specs.View.{geometry_view};
 ghost use Rattle.regions.specs.Gathering.{HasRegions};
 ghost use Rattle.free_runs.specs.View.{free_view};
@@ -20,43 +19,42 @@ ghost use Rattle.planning.specs.Places.{place_view, site_from, Begins};
 ghost use Rattle.planning.specs.Planned.{Planned, Admitted};
 ghost use Rattle.placing.specs.Site.{new_of, site_view};
 
-use editions::Edition;
 use free_runs::Free;
 use geometry::Geometry;
 use index::{Cursor, Unused};
 use judging::Kept;
-use placing::Site;
+use placing::{New, Site};
 use super_block::SuperBlock;
 use units::{Block, Slot};
 
 // ---- a place for the run
 
-// Where a run goes, and the geometry after any growth of the index.
-#[derive(Clone, Copy)]
-enum RunPlace {
-    Nothing,
-    At(Slot, Geometry),
-}
-
 // Slot 1 of an index that is n slots larger, if it may grow so in an image of `len` bytes.
-fn grown_place(len: u64, g: Geometry, n: u64) -> RunPlace
+fn grown_place(len: u64, g: Geometry, n: u64) -> Option<(Slot, Geometry)>
     requires { GoodGeometry len (geometry_view g) × (n ≤ 6) }
     ensures { place_view result ≡ grown_place len (grow_index (geometry_view g) (slot_bytes * n)) }
 {
     let grown = g.grow_index(units::SLOT_BYTES * n);
     if !grown.areas_fit(len) {
-        return RunPlace::Nothing;
+        return None;
     }
-    RunPlace::At(Slot::at(1), grown)
+    Some((Slot::at(1), grown))
 }
 
 // The lowest n unused slots of those that an entry of the path may have, else the index grows by them.
-fn place_run(img: &[u8], sums: &[u8], g: Geometry, from: Cursor, path: &[u8], n: u64) -> RunPlace
+fn place_run(
+    img: &[u8],
+    sums: &[u8],
+    g: Geometry,
+    from: Cursor,
+    path: &[u8],
+    n: u64,
+) -> Option<(Slot, Geometry)>
     requires { Opened img.now g × Begins img.now g from × (1 ≤ n) × (n ≤ 6) × SumsFrom img.now sums.now from }
     ensures { place_view result ≡ place_run (length img.now) (volume_of img.now (geometry_view g)) path.now n }
 {
     match index::lowest_unused(img, sums, places::places_for(img, sums, from, path), n) {
-        Unused::At(slot) => RunPlace::At(slot, g),
+        Unused::At(slot) => Some((slot, g)),
         Unused::Nothing => grown_place(img.len() as u64, g, n),
     }
 }
@@ -83,29 +81,6 @@ fn place_file(img: &[u8], grown: Geometry, keys: &[u64], i: usize, k: u64) -> Fr
 pub enum Plan {
     Refused(u8),
     At(Site),
-}
-
-// The slots of the run.
-fn slots_for(ed: Edition, file: bool, path: &[u8]) -> u64
-    ensures { (bytes : List ℕ) → result ≡ new_slots (edition_view ed) (new_of file bytes) path.now }
-{
-    let n = path.len() as u64;
-    if file {
-        return slots::run_slots(ed, slots::FILE, n);
-    }
-    slots::run_slots(ed, slots::DIRECTORY, n)
-}
-
-// The blocks that the bytes need; a directory needs none.
-fn blocks_for(g: Geometry, file: bool, bytes: &[u8]) -> u64
-    requires { g.block_field ≤ 5 }
-    ensures { result ≡ new_blocks (geometry_view g) (new_of file bytes.now) }
-{
-    let len = g.block_length();
-    if file {
-        return free_runs::blocks_needed(len, bytes.len() as u64);
-    }
-    free_runs::blocks_needed(len, 0)
 }
 
 // All of it at these places: the data area grows only if the blocks pass its end.
@@ -141,109 +116,82 @@ fn plan_places(
     from: Cursor,
     keys: &[u64],
     i: usize,
-    file: bool,
-    path: &[u8],
-    bytes: &[u8],
-    stamp: u64,
+    new: New,
 ) -> Plan
-    requires { Opened img.now g × Begins img.now g from × Admitted img.now g path.now × KeysOf img.now g (drop i keys.now) × SumsFrom img.now sums.now from }
-    ensures { Planned img.now (new_of file bytes.now) path.now (signed_of stamp) result }
+    requires { Opened img.now g × Begins img.now g from × Admitted img.now g new.path.now × KeysOf img.now g (drop i keys.now) × SumsFrom img.now sums.now from }
+    ensures { Planned img.now (new_of new.entry.made) new.entry.path.now (signed_of new.entry.stamp) result }
 {
-    let slots = slots_for(g.edition, file, path);
+    let path = new.path;
+    let bytes = new.made.bytes();
+    let slots = slots::run_slots(g.edition, new.made.kind(), path.len() as u64);
     match place_run(img, sums, g, from, path, slots) {
-        RunPlace::Nothing => Plan::Refused(15),
-        RunPlace::At(slot, grown) => {
-            let blocks = blocks_for(g, file, bytes);
+        None => Plan::Refused(15),
+        Some((slot, grown)) => {
+            let blocks = free_runs::blocks_needed(g.block_length(), bytes.len() as u64);
             match place_file(img, grown, keys, i, blocks) {
                 Free::Nothing => Plan::Refused(16),
-                Free::At(start) => Plan::At(site_at(g, grown, slot, slots, start, blocks, stamp)),
+                Free::At(start) => Plan::At(site_at(
+                    g, grown, slot, slots, start, blocks, new.stamp,
+                )),
             }
         }
     }
 }
 
 // 9, 10, 12 and 13: whether the volume may be written, and by this path.
-fn plan_opened(
-    img: &[u8],
-    g: Geometry,
-    keys: &[u64],
-    i: usize,
-    file: bool,
-    path: &[u8],
-    bytes: &[u8],
-    stamp: u64,
-) -> Plan
+fn plan_opened(img: &[u8], g: Geometry, keys: &[u64], i: usize, new: New) -> Plan
     requires { Opened img.now g × KeysOf img.now g (drop i keys.now) }
-    ensures { Planned img.now (new_of file bytes.now) path.now (signed_of stamp) result }
+    ensures { Planned img.now (new_of new.entry.made) new.entry.path.now (signed_of new.entry.stamp) result }
 {
     if !g.is_writable() {
         return Plan::Refused(9);
     }
-    if !names::new_path_good(path) {
+    if !names::new_path_good(new.path) {
         return Plan::Refused(10);
     }
     let mut sums = [0u8; sums::ROOM];
     let from = super_block::first_slot(img, g, &mut sums);
-    if paths::is_found(paths::lookup(img, &sums, from, path)) {
+    if paths::is_found(paths::lookup(img, &sums, from, new.path)) {
         return Plan::Refused(12);
     }
-    if !path_rules::nearest_live(img, &sums, from, path) {
+    if !path_rules::nearest_live(img, &sums, from, new.path) {
         return Plan::Refused(13);
     }
-    plan_places(img, &sums, g, from, keys, i, file, path, bytes, stamp)
+    plan_places(img, &sums, g, from, keys, i, new)
 }
 
 // 6 to 8, and then the rest. The lent scratch keeps the keys of the regions.
-fn plan_judged(
-    img: &[u8],
-    g: Geometry,
-    keys: &mut [u64],
-    tmp: &mut [u64],
-    file: bool,
-    path: &[u8],
-    bytes: &[u8],
-    stamp: u64,
-) -> Plan
+fn plan_judged(img: &[u8], g: Geometry, keys: &mut [u64], tmp: &mut [u64], new: New) -> Plan
     requires { SuperGood img.now g × (min (g.index_bytes / 64) 4_094 ≤ length keys.old) × (length keys.old ≤ length tmp.old) }
-    ensures { Planned img.now (new_of file bytes.now) path.now (signed_of stamp) result }
+    ensures { Planned img.now (new_of new.entry.made) new.entry.path.now (signed_of new.entry.stamp) result }
 {
     match judging::judge_index(img, g, keys, tmp) {
         Kept::Refused(n) => Plan::Refused(n),
-        Kept::Good(opened, i) => plan_opened(img, opened, keys, i, file, path, bytes, stamp),
+        Kept::Good(opened, i) => plan_opened(img, opened, keys, i, new),
     }
 }
 
-// The same with scratch for an index of few slots.
-fn plan_few(img: &[u8], g: Geometry, file: bool, path: &[u8], bytes: &[u8], stamp: u64) -> Plan
-    requires { SuperGood img.now g × (g.index_bytes / 64 ≤ 512) }
-    ensures { Planned img.now (new_of file bytes.now) path.now (signed_of stamp) result }
+// The same with scratch for N slots.
+fn plan_with<const N: usize>(img: &[u8], g: Geometry, new: New) -> Plan
+    requires { SuperGood img.now g × (min (g.index_bytes / 64) 4_094 ≤ N) × (N ≤ 4_094) }
+    ensures { Planned img.now (new_of new.entry.made) new.entry.path.now (signed_of new.entry.stamp) result }
 {
-    let mut keys = [0u64; judging::FEW];
-    let mut tmp = [0u64; judging::FEW];
-    plan_judged(img, g, &mut keys, &mut tmp, file, path, bytes, stamp)
+    let mut keys = [0u64; N];
+    let mut tmp = [0u64; N];
+    plan_judged(img, g, &mut keys, &mut tmp, new)
 }
 
-// The same with scratch for any index.
-fn plan_many(img: &[u8], g: Geometry, file: bool, path: &[u8], bytes: &[u8], stamp: u64) -> Plan
-    requires { SuperGood img.now g }
-    ensures { Planned img.now (new_of file bytes.now) path.now (signed_of stamp) result }
-{
-    let mut keys = [0u64; judging::MOST];
-    let mut tmp = [0u64; judging::MOST];
-    plan_judged(img, g, &mut keys, &mut tmp, file, path, bytes, stamp)
-}
-
-// A file of these bytes, or a directory: all that a create tests, on any image and any arguments.
-pub fn plan_create(img: &[u8], file: bool, path: &[u8], bytes: &[u8], stamp: u64) -> Plan
-    ensures { Planned img.now (new_of file bytes.now) path.now (signed_of stamp) result }
+// All that a create tests, on any image and any arguments. Few slots take little scratch, which costs little to clear.
+pub fn plan_create(img: &[u8], new: New) -> Plan
+    ensures { Planned img.now (new_of new.entry.made) new.entry.path.now (signed_of new.entry.stamp) result }
 {
     match super_block::judge_super(img) {
         SuperBlock::Refused(n) => Plan::Refused(n),
         SuperBlock::Good(g) => {
             if judging::has_few(g) {
-                return plan_few(img, g, file, path, bytes, stamp);
+                return plan_with::<{ judging::FEW }>(img, g, new);
             }
-            plan_many(img, g, file, path, bytes, stamp)
+            plan_with::<{ judging::MOST }>(img, g, new)
         }
     }
 }

@@ -6,6 +6,7 @@ ghost use Rattle.std.specs.Prelude.{◌≡◌};
 ghost use Rattle.contracts.specs.Promises.{TellsApi, Formats, OpensVolume, Finds, Lists, ListsAll, Reads, CreatesFile, CreatesDirectory, Deletes, DeletesKeeping, Restores, Reclaims, WritesListing, CountsImage, WritesReport};
 
 use contracts::{Content, Entry, Listed, Records, Volume};
+use placing::{Made, New};
 
 // The number of the interface, raised whenever a struct, an argument or what a call does changes.
 const API: u32 = 2;
@@ -69,13 +70,27 @@ pub fn sfs_read(image: &[u8], path: &[u8], out: &mut [u8]) -> Content
 pub fn sfs_create_file(image: &mut [u8], path: &[u8], bytes: &[u8], stamp: i64) -> u32
     ensures { CreatesFile image.old path.now bytes.now stamp result image.new }
 {
-    creating::create(image, true, path, bytes, stamps::to_bits(stamp))
+    creating::create(
+        image,
+        New {
+            made: Made::File(bytes),
+            path,
+            stamp: stamps::to_bits(stamp),
+        },
+    )
 }
 
 pub fn sfs_create_directory(image: &mut [u8], path: &[u8], stamp: i64) -> u32
     ensures { CreatesDirectory image.old path.now stamp result image.new }
 {
-    creating::create(image, false, path, b"", stamps::to_bits(stamp))
+    creating::create(
+        image,
+        New {
+            made: Made::Directory,
+            path,
+            stamp: stamps::to_bits(stamp),
+        },
+    )
 }
 
 pub fn sfs_delete(image: &mut [u8], path: &[u8], stamp: i64) -> u32

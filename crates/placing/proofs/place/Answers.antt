@@ -1,20 +1,17 @@
-use mathlib.Core.Path.{◌∙◌}
-use Rattle.placing.specs.Site.{site_view, kind-file, kind-directory, bytes-file, bytes-directory}
-use Rattle.placing.specs.Placed.{file-image, directory-image}
+use mathlib.Core.Path.{refl, ◌∙◌}
+use native.Mathlib.Omega.{arith}
+use Rattle.placing.specs.Placed.{head-fits, site-put, new-in, new-image}
 use Rattle.placing.proofs.place.Goals as goal
 
-pub put_new-requires : goal.put_new-requires
-put_new-requires c =
-    let e = c.if-file.true in
-    rw (kind-file _ c.args.bytes.now e, bytes-file _ c.args.bytes.now e) at c.requires
+pub put_run-requires : goal.put_run-requires
+put_run-requires c =
+    let i = new-in _ _ _ _ c.kind.ensures _ c.bytes-bytes.ensures _ c.requires in
+    let f = head-fits _ _ _ _ _ i _ _ c.head_of-h.ensures in
+    (omega (arith, f.0), f.1, f.2, f.3)
 
-pub put_new-requires-else-file : goal.put_new-requires-else-file
-put_new-requires-else-file c =
-    let e = c.if-file.false in
-    rw (kind-directory _ c.args.bytes.now e, bytes-directory _ c.args.bytes.now e) at c.requires
-
-pub returns-then-file : goal.returns-then-file
-returns-then-file c = c.put_new.ensures ∙ file-image _ _ _ (site_view c.args.p) _ _ c.if-file.true
-
-pub returns-else-file : goal.returns-else-file
-returns-else-file c = c.put_new-else-file.ensures ∙ directory-image _ _ c.args.bytes.now (site_view c.args.p) _ _ c.if-file.false
+pub returns : goal.returns
+returns c =
+    let i = new-in _ _ _ _ c.kind.ensures _ c.bytes-bytes.ensures _ c.requires in
+    site-put _ _ _ _ _ i _ _ c.head_of-h.ensures _ refl _ _ _ _
+    c.put_sizes.ensures c.move_marker.ensures c.put_run.ensures c.put_blocks.ensures
+    ∙ new-image _ _ c.args.p _ c.kind.ensures _ c.bytes-bytes.ensures _ _

@@ -22,19 +22,19 @@ volume x = volume_of x.args.img.now (geometry_view x.args.g)
 current : (c : Else-not-is_writable) → writable (geometry_view c.args.g) ≡ true
 current c = sym c.is_writable.ensures ∙ c.if-not-is_writable.false
 
-named : (c : Else-not-new_path_good) → new_path_good c.args.path.now ≡ true
+named : (c : Else-not-new_path_good) → new_path_good c.args.new.path.now ≡ true
 named c = sym c.new_path_good.ensures ∙ c.if-not-new_path_good.false
 
 walks : (c : After-first_slot-from) → Walks c.args.img.now c.first_slot-from.result
 walks c = opened-walks _ _ c.requires.0 _ c.first_slot-from.ensures.0 c.first_slot-from.ensures.1
 
-sought : (c : After-is_found) → is_some (lookup c.args.path.now (entries (volume (goal.at.After-is_found c).Start))) ≡ c.is_found.result
+sought : (c : After-is_found) → is_some (lookup c.args.new.path.now (entries (volume (goal.at.After-is_found c).Start))) ≡ c.is_found.result
 sought c = found-is _ _ c.first_slot-from.result c.first_slot-from.ensures.0 _ _ c.lookup.ensures ∙ sym c.is_found.ensures
 
-absent : (c : Else-is_found) → is_some (lookup c.args.path.now (entries (volume (goal.at.Else-is_found c).Start))) ≡ false
+absent : (c : Else-is_found) → is_some (lookup c.args.new.path.now (entries (volume (goal.at.Else-is_found c).Start))) ≡ false
 absent c = sought (goal.at.Else-is_found c).After-is_found ∙ c.if-is_found.false
 
-nearest : (c : After-nearest_live) → nearest_live (entries (volume (goal.at.After-nearest_live c).Start)) (leading c.args.path.now) ≡ c.nearest_live.result
+nearest : (c : After-nearest_live) → nearest_live (entries (volume (goal.at.After-nearest_live c).Start)) (leading c.args.new.path.now) ≡ c.nearest_live.result
 nearest c = nearest-is _ _ c.first_slot-from.result c.first_slot-from.ensures.0 _ ∙ sym c.nearest_live.ensures
 
 pub returns-then-not-is_writable : goal.returns-then-not-is_writable
