@@ -1,5 +1,5 @@
 -- From entry to entry: what a step of the walk says.
-use Rattle.std.specs.Prelude.{ℕ, ◌+◌, ◌-◌, ◌*◌, ◌≤◌, ◌<◌, ◌≡◌, refl, Bool, true, false, List, [], ◌∷◌, length, get_or, drop}
+use Rattle.std.specs.Prelude.{ℕ, ◌+◌, ◌-◌, ◌*◌, ◌≤◌, ◌<◌, ◌≡◌, refl, Bool, true, false, List, [], ◌∷◌, length, get_or, drop, Option, None, Some}
 use Rattle.std.proofs.Common.{sym, ap, ◌∙◌, arith}
 use Rattle.rules.specs.Fields.{byte_at}
 use Rattle.rules.specs.Editions.{Edition}
@@ -12,10 +12,7 @@ use Rattle.slots.specs.declared.Spot.{Spot}
 use Rattle.slots.specs.View.{spot_view, slots-is, slot_is, entry_in, spot-view, spot_in, head-spot}
 pub use Rattle.slots.specs.View.{HeadIn, SpotIn}
 use Rattle.index.specs.declared.Cursor.{Cursor}
-use Rattle.index.specs.declared.Stop.{Stop}
-use Rattle.index.specs.declared.Stop.TheVariants.{End as no_more, At}
-use Rattle.index.specs.declared.Next.{Next}
-use Rattle.index.specs.declared.Next.TheVariants.{End, Found}
+use Rattle.index.specs.declared.Ahead.{Ahead}
 use Rattle.index.specs.View.{Inside, SumsFrom, Behind, sums-behind, items_from, head_view, Past, past-items, past-inside}
 
 -- the entries that a cursor has before it
@@ -56,9 +53,9 @@ pub record Onward (s : List ℕ) (c : Cursor) (p : Spot) (d : Cursor) : Type 0 w
   pub entry : entry_type (edition_view p.edition) p.kind ≡ true → Arrives s c p d
   pub unused : entry_type (edition_view p.edition) p.kind ≡ false → entries_from s d ≡ entries_from s c
 
-unfoldable pub Stops : List ℕ → Cursor → Stop → Type 0
-Stops s c no_more = entries_from s c ≡ []
-Stops s c (At p d) = Arrives s c p d
+unfoldable pub Stops : List ℕ → Cursor → Option Ahead → Type 0
+Stops s c None = entries_from s c ≡ []
+Stops s c (Some a) = Arrives s c a.here a.rest
 
 -- a step to an entry whose numbers are read
 pub record Step (s : List ℕ) (c : Cursor) (h : Head) (d : Cursor) : Type 0 where
@@ -74,9 +71,9 @@ pub record Step (s : List ℕ) (c : Cursor) (h : Head) (d : Cursor) : Type 0 whe
   pub ahead : c.slot.0 ≤ h.slot.0
   pub ends : d.slot.0 + d.left ≡ c.slot.0 + c.left
 
-unfoldable pub Told : List ℕ → Cursor → Next → Type 0
-Told s c End = entries_from s c ≡ []
-Told s c (Found h d) = Step s c h d
+unfoldable pub Told : List ℕ → Cursor → Option (Head × Cursor) → Type 0
+Told s c None = entries_from s c ≡ []
+Told s c (Some (h, d)) = Step s c h d
 
 -- ---- a step that finds an entry
 slots-entry : (e : Entry) → e.slots ≡ slots_of (entry e)

@@ -1,30 +1,26 @@
 -- What a loop over entries does: a step of the walk read by its answer, and a test over the entries taken one step further.
-use Rattle.std.specs.Prelude.{ℕ, ◌≡◌, Bool, true, false, List, [], ◌∷◌}
+use Rattle.std.specs.Prelude.{ℕ, ◌≡◌, Bool, true, false, List, [], ◌∷◌, Option, None, Some}
 use Rattle.rules.specs.Lists.{all, every_two}
 use Rattle.index.specs.declared.Cursor.{Cursor}
 use Rattle.slots.specs.declared.Head.{Head}
-use Rattle.slots.specs.declared.Spot.{Spot}
-use Rattle.index.specs.declared.Stop.{Stop}
-use Rattle.index.specs.declared.Stop.TheVariants.{End as no_more, At}
-use Rattle.index.specs.declared.Next.{Next}
-use Rattle.index.specs.declared.Next.TheVariants.{End, Found}
+use Rattle.index.specs.declared.Ahead.{Ahead}
 use Rattle.index.specs.Steps.{entries_from, Stops, Arrives, Told, Step}
 
-module _ (s : List ℕ) (c : Cursor) (r : Stop) (stops : Stops s c r) where
-  pub stops_end : r ≡ no_more → entries_from s c ≡ []
+module _ (s : List ℕ) (c : Cursor) (r : Option Ahead) (stops : Stops s c r) where
+  pub stops_end : r ≡ None → entries_from s c ≡ []
   unfolding Stops
   stops_end e = rw e at stops
 
-  pub stops_at : (p : Spot) (d : Cursor) → r ≡ At p d → Arrives s c p d
+  pub stops_at : (a : Ahead) → r ≡ Some a → Arrives s c a.here a.rest
   unfolding Stops
-  stops_at p d e = rw e at stops
+  stops_at a e = rw e at stops
 
-module _ (s : List ℕ) (c : Cursor) (r : Next) (told : Told s c r) where
-  pub told-end : r ≡ End → entries_from s c ≡ []
+module _ (s : List ℕ) (c : Cursor) (r : Option (Head × Cursor)) (told : Told s c r) where
+  pub told-end : r ≡ None → entries_from s c ≡ []
   unfolding Told
   told-end e = rw e at told
 
-  pub told-found : (h : Head) (d : Cursor) → r ≡ Found h d → Step s c h d
+  pub told-found : (h : Head) (d : Cursor) → r ≡ Some (h, d) → Step s c h d
   unfolding Told
   told-found h d e = rw e at told
 

@@ -1,5 +1,5 @@
 -- The lowest unused slots that hold a run, taken one step of the walk further.
-use Rattle.std.specs.Prelude.{ℕ, ◌+◌, ◌-◌, ◌≤◌, ◌<◌, ◌≡◌, Bool, List, [], ◌∷◌, get_or, drop}
+use Rattle.std.specs.Prelude.{ℕ, ◌+◌, ◌-◌, ◌≤◌, ◌<◌, ◌≡◌, Bool, List, [], ◌∷◌, get_or, drop, Option as Answer, None, Some}
 use Rattle.std.proofs.Math.Path.{refl}
 use Rattle.std.proofs.Common.{sym, ap, ◌∙◌, arith}
 use Rattle.std.proofs.Math.Bool.{true, false}
@@ -15,14 +15,13 @@ use Rattle.rules.specs.Index.Items.{head_of, entry_type, step_slots, step-entry,
 use Rattle.rules.specs.Writing.{unused_first, starts_unused, item_slot, lowest_unused}
 use Rattle.editions.specs.View.{edition_view}
 use Rattle.index.specs.declared.Cursor.{Cursor}
-use Rattle.index.specs.declared.Unused.{Unused}
-use Rattle.index.specs.declared.Unused.TheVariants.{Nothing, At}
+use Rattle.units.specs.declared.Slot.{Slot}
 use Rattle.index.specs.View.{items_from, Past, past-items}
 use Rattle.index.specs.Steps.{Walks, gap_is, gap-count, gap-behind}
 
-abbrev pub unused_view : Unused → Option ℕ
-unused_view Nothing = none
-unused_view (At k) = some k.0
+abbrev pub unused_view : Answer Slot → Option ℕ
+unused_view None = none
+unused_view (Some k) = some k.0
 
 -- ---- a search that has passed m unused slots from k on: they stand before what is left as one item
 module _ (n k m : ℕ) where

@@ -31,20 +31,6 @@ pub struct Ahead {
     pub rest: Cursor,
 }
 
-// What a walk meets next: an entry, by where it stands, and the cursor behind it.
-#[derive(Clone, Copy)]
-pub enum Stop {
-    End,
-    At(Spot, Cursor),
-}
-
-// The same with the entry's numbers.
-#[derive(Clone, Copy)]
-pub enum Next {
-    End,
-    Found(Head, Cursor),
-}
-
 // The cursor n slots further.
 fn past(c: Cursor, n: u64) -> Cursor
     requires { (n ≤ c.left) × (c.at.0 + 64 * c.left ≤ 16_777_216) × (c.slot.0 + c.left ≤ 16_777_216) }
@@ -163,45 +149,33 @@ pub fn single(img: &[u8], c: Cursor) -> Ahead
     Ahead { here, rest }
 }
 
-// The next entry from the cursor on, by where it stands: unused slots are passed over.
-pub fn next_spot(img: &[u8], sums: &[u8], from: Cursor) -> Stop
+// The next entry from the cursor on, by where it stands, and the cursor behind it: unused slots are passed over.
+pub fn next_spot(img: &[u8], sums: &[u8], from: Cursor) -> Option<Ahead>
     requires { Walks img.now from × SumsFrom img.now sums.now from }
     ensures { Stops img.now from result }
 {
     let mut c = from;
     while 0 < c.left {
         let next = further(img, sums, c);
-        let here = next.here;
-        let rest = next.rest;
-        if slots::is_entry(here.edition, here.kind) {
-            return Stop::At(here, rest);
+        if slots::is_entry(next.here.edition, next.here.kind) {
+            return Some(next);
         }
-        c = rest;
+        c = next.rest;
     }
-    Stop::End
+    None
 }
 
 // The same with all numbers of the entry.
-pub fn next_entry(img: &[u8], sums: &[u8], from: Cursor) -> Next
+pub fn next_entry(img: &[u8], sums: &[u8], from: Cursor) -> Option<(Head, Cursor)>
     requires { Walks img.now from × SumsFrom img.now sums.now from }
     ensures { Told img.now from result }
 {
-    match next_spot(img, sums, from) {
-        Stop::End => Next::End,
-        Stop::At(p, rest) => {
-            let head = slots::head_at(img, p.edition, p.at, p.slot);
-            Next::Found(head, rest)
-        }
-    }
+    let Ahead { here, rest } = next_spot(img, sums, from)?;
+    let head = slots::head_at(img, here.edition, here.at, here.slot);
+    Some((head, rest))
 }
 
 // ---- unused slots
-
-#[derive(Clone, Copy)]
-pub enum Unused {
-    Nothing,
-    At(Slot),
-}
 
 // The cursor behind the entries of one slot each that stand here. The loop need not wait for a count to know where the next slot is.
 fn past_singles(img: &[u8], from: Cursor) -> Cursor
@@ -222,7 +196,7 @@ fn past_singles(img: &[u8], from: Cursor) -> Cursor
 }
 
 // The lowest n unused slots in a row; all from `first` up to the cursor's are unused.
-pub fn lowest_unused(img: &[u8], sums: &[u8], from: Cursor, n: u64) -> Unused
+pub fn lowest_unused(img: &[u8], sums: &[u8], from: Cursor, n: u64) -> Option<Slot>
     requires { Walks img.now from × (1 ≤ n) × SumsFrom img.now sums.now from }
     ensures { unused_view result ≡ lowest_unused n (items_from img.now from) }
 {
@@ -240,9 +214,9 @@ pub fn lowest_unused(img: &[u8], sums: &[u8], from: Cursor, n: u64) -> Unused
         } else {
             c = rest;
             if n <= first.slots_to(c.slot) {
-                return Unused::At(first);
+                return Some(first);
             }
         }
     }
-    Unused::Nothing
+    None
 }

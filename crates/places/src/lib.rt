@@ -12,7 +12,7 @@ ghost use Rattle.index.specs.Steps.{Walks};
 ghost use Rattle.index.specs.View.{SumsFrom};
 ghost use Rattle.places.specs.Cut.{PlacesBefore, PlacesFor};
 
-use index::{Cursor, Stop, next_spot};
+use index::{Ahead, Cursor, next_spot};
 use slots::Spot;
 
 // Whether the path lies below what the name field names: a slash stands in the path where the name has its zero.
@@ -52,17 +52,13 @@ fn slots_before(img: &[u8], sums: &[u8], from: Cursor, path: &[u8]) -> u64
     ensures { PlacesBefore img.now from path.now result }
 {
     let mut c = from;
-    loop {
-        match next_spot(img, sums, c) {
-            Stop::End => return from.left,
-            Stop::At(e, rest) => {
-                if is_above(img, e, path) {
-                    return from.slot.slots_to(e.slot);
-                }
-                c = rest;
-            }
+    while let Some(Ahead { here, rest }) = next_spot(img, sums, c) {
+        if is_above(img, here, path) {
+            return from.slot.slots_to(here.slot);
         }
+        c = rest;
     }
+    from.left
 }
 
 // Whether a path has a slash: one without has no directories.

@@ -1,20 +1,20 @@
 use native.Mathlib.Omega.{arith}
-use Rattle.index.specs.Steps.{Told, Arrives, step-read}
-use Rattle.index.specs.Turns.{stops_end, stops_at}
+use Rattle.index.specs.Steps.{Stops, Told, Arrives, step-read}
 use Rattle.index.proofs.next_entry.Goals as goal
-use Rattle.index.proofs.next_entry.Goals.{In-At}
+use Rattle.index.proofs.next_entry.Goals.{In_ok-here}
 
-here : (c : In-At) → Arrives c.args.img.now c.args.from c.in-At.p c.in-At.rest
-here c = stops_at _ _ _ c.next_spot.ensures _ _ c.in-At.is
+met : (c : In_ok-here) → Arrives c.args.img.now c.args.from c.in_ok-here.field-0.here c.in_ok-here.field-0.rest
+unfolding Stops
+met c = c.in_ok-here.ensures
+
+pub returns-in_err-here : goal.returns-in_err-here
+unfolding Stops Told
+returns-in_err-here c = rw c.from_residual.ensures c.in_err-here.ensures
 
 pub head_at-head-requires : goal.head_at-head-requires
-head_at-head-requires c = let r = here (goal.at.head_at-head-requires c).In-At in omega (arith, r.spot.fits, r.spot.low)
+head_at-head-requires c = let r = met (goal.at.head_at-head-requires c).In_ok-here in omega (arith, r.spot.fits, r.spot.low)
 
-pub returns-in-End : goal.returns-in-End
+pub returns : goal.returns
 unfolding Told
-returns-in-End c = stops_end _ _ _ c.next_spot.ensures c.in-End.is
-
-pub returns-in-At : goal.returns-in-At
-unfolding Told
-returns-in-At c =
-    step-read _ _ _ _ (here (goal.at.returns-in-At c).In-At) _ c.head_at-head.ensures.place.0 c.head_at-head.ensures.result_value c.head_at-head.ensures.place.1
+returns c =
+    step-read _ _ _ _ (met (goal.at.returns c).In_ok-here) _ c.head_at-head.ensures.place.0 c.head_at-head.ensures.result_value c.head_at-head.ensures.place.1
