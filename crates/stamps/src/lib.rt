@@ -1,12 +1,12 @@
-// Stamps: signed numbers of 64 bits, rounded-down division, and the date of any stamp.
+// Stamps: signed numbers of 64 bits and their bits, and the date of any stamp.
 
 #![tactic(auto)]
 
-ghost use Rattle.std.specs.Prelude.{◌≡◌, pos, nat_abs, ◌+ℤ◌, ◌*ℤ◌, ◌<ℤ◌};
+ghost use Rattle.std.specs.Prelude.{◌≡◌, pos, ◌+ℤ◌, ◌*ℤ◌};
 ghost use Prim.Native.Nat.{◌+◌, ◌-◌, ◌<◌, ◌^◌};
 ghost use Rattle.std.specs.Int.Signed.{mag};
 ghost use Rattle.rules.specs.Fields.{signed_of, bits_of};
-ghost use Rattle.rules.specs.Dates.{floor_div, floor_mod, date_of, moment_of};
+ghost use Rattle.rules.specs.Dates.{date_of, moment_of};
 ghost use Rattle.rules.specs.Dates.Quick.{year_of, day_of, month_of, month_start, calendar_month, carry, date_at};
 ghost use Rattle.rules.specs.Dates.Range.{InRange};
 ghost use Rattle.stamps.specs.View.{date_view, moment_view};
@@ -15,38 +15,14 @@ ghost use Rattle.stamps.specs.View.{date_view, moment_view};
 pub fn from_bits(x: u64) -> i64
     ensures { result ≡ signed_of x }
 {
-    if x < 0x8000_0000_0000_0000 {
-        x as i64
-    } else {
-        !((!x) as i64)
-    }
+    x.cast_signed()
 }
 
 // The bits of `z`.
 pub fn to_bits(z: i64) -> u64
     ensures { result ≡ bits_of z }
 {
-    if z < 0 { !((!z) as u64) } else { z as u64 }
-}
-
-// The quotient of `a` by `b`, rounded down. `!a` is -1 - a, which needs no room.
-pub fn floor_div(a: i64, b: i64) -> i64
-    requires { pos 0 <ℤ b }
-    ensures { result ≡ floor_div a (nat_abs b) }
-{
-    if a < 0 { !(!a / b) } else { a / b }
-}
-
-// What is left of `a` after that quotient: from 0 up to `b`.
-pub fn floor_mod(a: i64, b: u64) -> u64
-    requires { 0 < b }
-    ensures { result ≡ floor_mod a b }
-{
-    if a < 0 {
-        b - 1 - (!a) as u64 % b
-    } else {
-        a as u64 % b
-    }
+    z.cast_unsigned()
 }
 
 #[derive(Clone, Copy)]
@@ -62,20 +38,14 @@ struct YearDay {
     day: u64,
 }
 
-fn least(a: u64, b: u64) -> u64
-    ensures { result ≡ Prim.Native.Nat.min a b }
-{
-    if a <= b { a } else { b }
-}
-
 // The year of a day of an era, and the day of that year.
 fn year_day(e: u64) -> YearDay
     requires { e < 146097 }
     ensures { (result.year ≡ year_of e) × (result.day ≡ day_of e) }
 {
-    let c = least(e / 36524, 3);
+    let c = (e / 36524).min(3);
     let r = e - 36524 * c;
-    let y = least(r % 1461 / 365, 3);
+    let y = (r % 1461 / 365).min(3);
     YearDay {
         year: 100 * c + 4 * (r / 1461) + y,
         day: r % 1461 - 365 * y,
@@ -137,7 +107,7 @@ fn date_of(days: i64) -> Date
     ensures { date_view result ≡ date_of days }
 {
     let z = days + 719468;
-    date_at(floor_div(z, 146097), floor_mod(z, 146097))
+    date_at(z.div_euclid(146097), z.rem_euclid(146097) as u64)
 }
 
 #[derive(Clone, Copy)]
@@ -152,9 +122,9 @@ pub struct Moment {
 pub fn moment_of(stamp: i64) -> Moment
     ensures { (moment_view result ≡ moment_of stamp) × InRange (moment_view result) }
 {
-    let seconds = floor_div(stamp, 65536);
-    let date = date_of(floor_div(seconds, 86400));
-    let s = floor_mod(seconds, 86400);
+    let seconds = stamp.div_euclid(65536);
+    let date = date_of(seconds.div_euclid(86400));
+    let s = seconds.rem_euclid(86400) as u64;
     Moment {
         date,
         hour: s / 3600,

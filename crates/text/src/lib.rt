@@ -57,23 +57,12 @@ pub fn put_counted(out: &mut [u8], at: usize, words: &[u8], n: u64) -> usize
     put_number(out, end, n, 1)
 }
 
-// How far from year 0; `!year` is -1 - year, which needs no room.
-fn distance(year: i64) -> u64
-    ensures { result ≡ nat_abs year }
-{
-    if year < 0 {
-        (!year) as u64 + 1
-    } else {
-        year as u64
-    }
-}
-
 // At least four digits, with a minus sign below 0.
 pub fn put_year(out: &mut [u8], at: usize, year: i64) -> usize
     requires { at + length (year_text year) ≤ length out.old }
     ensures { Wrote out.old at (year_text year) out.new result }
 {
-    let n = distance(year);
+    let n = year.unsigned_abs();
     if year < 0 {
         let end = put_byte(out, at, b'-');
         return put_number(out, end, n, 4);

@@ -1,8 +1,10 @@
-use Rattle.stamps.proofs.Signed.{from_low, from-high}
+use mathlib.Core.Path.{◌∙◌}
+use mir.Syntax.{w64}
+use mir.ValLaws.{to_z-of_z}
+use Rattle.stamps.proofs.Signed.{signed-is}
 use Rattle.stamps.proofs.from_bits.Goals as goal
 
-pub returns-then-x-lt9223372036854775808 : goal.returns-then-x-lt9223372036854775808
-returns-then-x-lt9223372036854775808 c = from_low c.args.x c.if-x-lt9223372036854775808.true
-
-pub returns-else-x-lt9223372036854775808 : goal.returns-else-x-lt9223372036854775808
-returns-else-x-lt9223372036854775808 c = from-high c.args.x c.ranges.x c.if-x-lt9223372036854775808.false
+pub returns : goal.returns
+returns c =
+    let z = c.cast_signed in
+    to_z-of_z w64 z.result (record { sfits = z.type_inv }) ∙ z.ensures ∙ signed-is c.args.x c.ranges.x

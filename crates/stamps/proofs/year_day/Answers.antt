@@ -4,4 +4,4 @@ use Rattle.stamps.proofs.year_day.Goals as goal
 
 pub returns : goal.returns
 unfolding century in_century year_of_four year_of day_of
-returns c = simp (c.least-y.ensures, c.least-c.ensures) (refl, refl)
+returns c = simp (c.min-y.ensures, c.min-c.ensures) (refl, refl)

@@ -11,24 +11,21 @@ use Rattle.rules.specs.Dates.Text.{year-up, year-down}
 use Rattle.stamps.proofs.Signed.{is-neg, is_pos}
 use Rattle.text.specs.Wrote.{wrote-both}
 use Rattle.text.proofs.put_year.Goals as goal
-use Rattle.text.proofs.put_year.Goals.{After-distance-n, Else-year-lt0, Then-year-lt0}
+use Rattle.text.proofs.put_year.Goals.{After-unsigned_abs-n, Else-year-lt0, Then-year-lt0}
 
 -- The sign says which text it is. Assumes nothing.
-pub distance-n-requires : goal.distance-n-requires
-distance-n-requires c = tt
+size : (c : After-unsigned_abs-n) → c.unsigned_abs-n.result ≡ nat_abs c.args.year
+size c = cc (c.unsigned_abs-n.ensures.value, to_z-of_z w64 c.args.year c.ranges.year)
 
-size : (c : After-distance-n) → c.distance-n.result ≡ nat_abs c.args.year
-size c = cc (to_z-of_z w64 c.args.year c.ranges.year)
-
-down : (c : Then-year-lt0) → year_text c.args.year ≡ text "-" ++ widened 4 (decimal c.distance-n.result)
+down : (c : Then-year-lt0) → year_text c.args.year ≡ text "-" ++ widened 4 (decimal c.unsigned_abs-n.result)
 down c =
     let (n, e, h) = is-neg c.args.year c.ranges.year c.if-year-lt0.true in
-    rw (size (goal.at.Then-year-lt0 c).After-distance-n, e) (year-down n)
+    rw (size (goal.at.Then-year-lt0 c).After-unsigned_abs-n, e) (year-down n)
 
-up : (c : Else-year-lt0) → year_text c.args.year ≡ widened 4 (decimal c.distance-n.result)
+up : (c : Else-year-lt0) → year_text c.args.year ≡ widened 4 (decimal c.unsigned_abs-n.result)
 up c =
     let (n, e, h) = is_pos c.args.year c.ranges.year c.if-year-lt0.false in
-    rw (size (goal.at.Else-year-lt0 c).After-distance-n, e) (year-up n)
+    rw (size (goal.at.Else-year-lt0 c).After-unsigned_abs-n, e) (year-up n)
 
 pub put_byte-end-requires : goal.put_byte-end-requires
 put_byte-end-requires c = omega (arith, ap length (down (goal.at.put_byte-end-requires c).Then-year-lt0))
