@@ -16,6 +16,7 @@ ghost use Rattle.super_block.specs.View.{super_view, magic_view, Judged};
 use editions::Edition;
 use geometry::Geometry;
 use index::Cursor;
+use refusals::Refusal;
 use units::{Offset, Slot};
 
 // The places of the fields behind the super-block's start, and its length.
@@ -56,13 +57,6 @@ fn byte_at(img: &[u8], ed: Edition, o: u64) -> u8
 }
 
 // ---- refusals 1 to 5
-
-// The first of them, or the geometry of an image that has none.
-#[derive(Clone, Copy)]
-pub enum SuperBlock {
-    Refused(u8),
-    Good(Geometry),
-}
 
 // The geometry as it is stored.
 fn read_geometry(img: &[u8], ed: Edition) -> Geometry
@@ -105,25 +99,18 @@ fn magic_good(img: &[u8], ed: Edition) -> bool
     byte_at(img, ed, MAGIC + 2) == 0x53
 }
 
-// The edition that an image's magic says.
-#[derive(Clone, Copy)]
-enum Magic {
-    Nothing,
-    Of(Edition),
-}
-
-// The place of 1.0's is looked at first; what is found is not tried as the other.
-fn find_magic(img: &[u8]) -> Magic
+// The edition that an image's magic says. The place of 1.0's is looked at first; what is found is not tried as the other.
+fn find_magic(img: &[u8]) -> Option<Edition>
     requires { 512 ≤ length img.now }
     ensures { magic_view result ≡ edition_of img.now }
 {
     if magic_good(img, editions::FIRST) {
-        return Magic::Of(editions::FIRST);
+        return Some(editions::FIRST);
     }
     if magic_good(img, editions::SECOND) {
-        return Magic::Of(editions::SECOND);
+        return Some(editions::SECOND);
     }
-    Magic::Nothing
+    None
 }
 
 fn version_good(img: &[u8], ed: Edition) -> bool
@@ -143,34 +130,32 @@ fn checksum_good(img: &[u8], ed: Edition) -> bool
 }
 
 // The tests from 3 on, in the order of their numbers, of a volume of this edition.
-fn judge_fields(img: &[u8], ed: Edition) -> SuperBlock
+fn judge_fields(img: &[u8], ed: Edition) -> Result<Geometry, Refusal>
     requires { 512 ≤ length img.now }
     ensures { super_view result ≡ judge_super img.now (edition_view ed) }
 {
     if !version_good(img, ed) {
-        return SuperBlock::Refused(3);
+        return Err(Refusal::Version);
     }
     if !checksum_good(img, ed) {
-        return SuperBlock::Refused(4);
+        return Err(Refusal::Checksum);
     }
     let g = read_geometry(img, ed);
     if !g.is_good(img.len() as u64) {
-        return SuperBlock::Refused(5);
+        return Err(Refusal::Geometry);
     }
-    SuperBlock::Good(g)
+    Ok(g)
 }
 
-// All of them.
-pub fn judge_super(img: &[u8]) -> SuperBlock
+// The first of them, or the geometry of an image that has none.
+pub fn judge_super(img: &[u8]) -> Result<Geometry, Refusal>
     ensures { super_view result ≡ judge_geometry img.now }
 {
     if !length_good(img.len() as u64) {
-        return SuperBlock::Refused(1);
+        return Err(Refusal::Length);
     }
-    match find_magic(img) {
-        Magic::Nothing => SuperBlock::Refused(2),
-        Magic::Of(ed) => judge_fields(img, ed),
-    }
+    let ed = find_magic(img).ok_or(Refusal::Magic)?;
+    judge_fields(img, ed)
 }
 
 // ---- refusal 6: the slots between the two ends of the index
