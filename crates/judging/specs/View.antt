@@ -1,5 +1,5 @@
 -- The code's judgement in the rules' words, and what callers know of an image that opens.
-use Rattle.std.specs.Prelude.{ℕ, ◌≤◌, ◌<◌, ◌≡◌, true, List, length}
+use Rattle.std.specs.Prelude.{ℕ, ◌≤◌, ◌<◌, ◌≡◌, true, List, length, Result, Ok, Err}
 use Rattle.std.proofs.Math.Path.{sym, ap}
 use Rattle.std.proofs.Common.{◌∙◌}
 use Rattle.rules.specs.Lists.{All}
@@ -19,16 +19,17 @@ use Rattle.super_block.specs.Ends.{sound-walks}
 use Rattle.ordering.specs.Regions.{Small}
 use Rattle.regions.specs.Bounds.{good-bounded}
 use Rattle.regions.specs.Gathering.{sound-small}
-use Rattle.judging.specs.declared.Judged.{Judged}
-use Rattle.judging.specs.declared.Judged.TheVariants.{Refused, Good}
+use Rattle.refusals.specs.declared.Refusal.{Refusal}
+use Rattle.refusals.specs.declared.Refusal.TheVariants.{Length}
+use Rattle.refusals.specs.View.{number_of}
 
 -- a volume is its geometry and what its index yields
 abbrev pub volume_of : List ℕ → Geometry → Volume
 volume_of s g = record { geometry = g; items = items_of s g }
 
-unfoldable pub judged_view : List ℕ → Judged → Verdict Volume
-judged_view s (Refused n) = refused n
-judged_view s (Good g) = accepted (volume_of s (geometry_view g))
+unfoldable pub judged_view : List ℕ → Result Held Refusal → Verdict Volume
+judged_view s (Err e) = refused (number_of e)
+judged_view s (Ok g) = accepted (volume_of s (geometry_view g))
 
 -- ---- an image that opens, with the geometry held
 abbrev pub Opened : List ℕ → Held → Type 0
@@ -61,28 +62,28 @@ module _ (s : List ℕ) (g : Held) (opened : Opened s g) where
       (ap (regions_sound (geometry_view g)) (opened-entries c i) ∙ (judge-opens s (volume_of s (geometry_view g)) opened).regions-sound)
 
 -- ---- what a judgement says
-module _ (s : List ℕ) (r : Judged) (told : judged_view s r ≡ judge s) where
-  pub refused_says : (n : ℕ) → r ≡ Refused n → judge s ≡ refused n
+module _ (s : List ℕ) (r : Result Held Refusal) (told : judged_view s r ≡ judge s) where
+  pub refused_says : (e : Refusal) → r ≡ Err e → judge s ≡ refused (number_of e)
   unfolding judged_view
-  refused_says n e = sym told ∙ ap (judged_view s) e
+  refused_says e i = sym told ∙ ap (judged_view s) i
 
-  pub good-says : (g : Held) → r ≡ Good g → Opened s g
+  pub good-says : (g : Held) → r ≡ Ok g → Opened s g
   unfolding judged_view
   good-says g e = sym told ∙ ap (judged_view s) e
 
 -- and one of a program
-module _ (s : List ℕ) (r : Judged) (told : judged_view s r ≡ judge_read s) where
-  pub read-refused : (n : ℕ) → r ≡ Refused n → judge_read s ≡ refused n
+module _ (s : List ℕ) (r : Result Held Refusal) (told : judged_view s r ≡ judge_read s) where
+  pub read-refused : (e : Refusal) → r ≡ Err e → judge_read s ≡ refused (number_of e)
   unfolding judged_view
-  read-refused n e = sym told ∙ ap (judged_view s) e
+  read-refused e i = sym told ∙ ap (judged_view s) i
 
-  pub read-good : (g : Held) → r ≡ Good g → judge_read s ≡ accepted (volume_of s (geometry_view g))
+  pub read-good : (g : Held) → r ≡ Ok g → judge_read s ≡ accepted (volume_of s (geometry_view g))
   unfolding judged_view
   read-good g e = sym told ∙ ap (judged_view s) e
 
-  pub read_opened : (g : Held) → r ≡ Good g → Opened s g
+  pub read_opened : (g : Held) → r ≡ Ok g → Opened s g
   read_opened g e = (read-opens s (volume_of s (geometry_view g)) (read-good g e)).1
 
-pub said-long : (s : List ℕ) → 65_536 < length s → judged_view s (Refused 1) ≡ judge_read s
+pub said-long : (s : List ℕ) → 65_536 < length s → judged_view s (Err Length) ≡ judge_read s
 unfolding judged_view
 said-long s h = sym (read-long s h)
