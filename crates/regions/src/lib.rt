@@ -157,21 +157,11 @@ pub fn key_end(key: u64) -> Block
     Block::at(key / PLACES % ENDS)
 }
 
-// Whether each region from place `from` on starts at or past the end of the one before it.
-fn in_turn(keys: &[u64], from: usize) -> bool
-    ensures { result ≡ in_turn 0 (drop from keys.now) }
+// Whether each region starts at or past the end of the one before it.
+fn in_turn(keys: &[u64]) -> bool
+    ensures { result ≡ in_turn 0 keys.now }
 {
-    let mut end = Block::at(0);
-    let mut i = from;
-    while i < keys.len() {
-        let key = keys[i];
-        if !end.is_at_or_before(key_start(key)) {
-            return false;
-        }
-        end = key_end(key);
-        i += 1;
-    }
-    true
+    keys.is_sorted_by(|a, b| key_end(*a) <= key_start(*b))
 }
 
 // The keys from place i on put in order; tmp is scratch. No key of a region names a path, so that the sort needs no image.
@@ -188,11 +178,11 @@ fn order(keys: &mut [u64], i: usize, tmp: &mut [u64]) -> bool
     requires { (i ≤ length keys.old) × (length keys.old ≤ length tmp.old) }
     ensures { Ordered (drop i keys.old) (drop i keys.new) result }
 {
-    if in_turn(keys, i) {
+    if in_turn(&keys[i..]) {
         return true;
     }
     sort_keys(keys, i, tmp);
-    in_turn(keys, i)
+    in_turn(&keys[i..])
 }
 
 // The regions of the entries from the cursor on, judged: if they are sound, the place in `keys` from which on their keys stand in order; tmp is

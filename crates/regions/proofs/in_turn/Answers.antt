@@ -1,19 +1,9 @@
-use mathlib.Core.Path.{refl, sym, ap, ◌∙◌}
-use native.Mathlib.Omega.{arith}
-use lib.Dec.{leb}
-use Rattle.regions.specs.Gathering.{turn_end, turn-stop, turn-next}
+use Rattle.std.proofs.Common.{rules, leb}
+use Rattle.std.proofs.lemmas.List.Sorted.{answers_always}
+use Rattle.ordering.specs.Regions.{key_start, key_end}
+use Rattle.regions.proofs.Turns.{in-turn-compared}
 use Rattle.regions.proofs.in_turn.Goals as goal
 
-pub returns-then-not-is_at_or_before : goal.returns-then-not-is_at_or_before
-returns-then-not-is_at_or_before c =
-    turn-stop c.args.keys.now _ c.loop-i.i _ (omega arith) refl (sym (ap (leb _) c.key_start.ensures) ∙ sym c.is_at_or_before.ensures ∙ c.if-not-is_at_or_before.true) ∙ c.loop-i.invariant
-
-pub loop-i-preserved : goal.loop-i-preserved
-loop-i-preserved c =
-    rw c.key_end-end.ensures (turn-next c.args.keys.now _ c.loop-i.i _ (omega arith) refl (sym (ap (leb _) c.key_start.ensures) ∙ sym c.is_at_or_before.ensures ∙ c.if-not-is_at_or_before.false)) ∙ c.loop-i.invariant
-
+-- the closure compares the end of a region with the start of the next
 pub returns : goal.returns
-returns c = turn_end c.args.keys.now _ c.loop-i.i (omega arith) ∙ c.loop-i.invariant
-
-pub loop-i-init : goal.loop-i-init
-loop-i-init c = rw c.at-end.ensures
+returns c = in-turn-compared _ _ (c.is_sorted_by.ensures.cases (λ x y. leb (key_end x) (key_start y)) (answers_always _ _ _ (λ f a r g h. search rules)))
