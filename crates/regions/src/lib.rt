@@ -17,7 +17,7 @@ ghost use Rattle.regions.specs.Bounds.{Bounded};
 ghost use Rattle.regions.specs.Gathering.{Gathers, InTheirOrder, Ordered, JudgesRegions};
 
 use geometry::Geometry;
-use index::{Cursor, Next};
+use index::Cursor;
 use slots::Head;
 use sorting::{PLACES, put_before};
 use units::{Block, Offset};
@@ -27,26 +27,14 @@ fn within_data(g: Geometry, h: Head) -> bool
     requires { Bounded g }
     ensures { (s : List ℕ) → result ≡ within_data (geometry_view g) (head_view s h) }
 {
-    if !g.data_start().is_at_or_before(h.start) {
-        return false;
-    }
-    if slots::ends_by(h, h.start) {
-        return false;
-    }
-    slots::ends_by(h, g.data_end())
+    g.data_start() <= h.start && !slots::ends_by(h, h.start) && slots::ends_by(h, g.data_end())
 }
 
 // An empty file has no region: an end is 0 exactly if it is stored as 0.
 fn is_empty(h: Head) -> bool
     ensures { result ≡ (eqb h.start.0 0 && eqb h.end.0 0 && eqb h.length 0) }
 {
-    if h.start.number() != 0 {
-        return false;
-    }
-    if h.end.number() != 0 {
-        return false;
-    }
-    h.length == 0
+    h.start.number() == 0 && h.end.number() == 0 && h.length == 0
 }
 
 // A file has no region, or its length fits the one that it has. The product is taken once the region is known to lie in the data area.
@@ -82,10 +70,7 @@ fn region_good(g: Geometry, h: Head) -> bool
 fn regions_apart(a: Head, b: Head) -> bool
     ensures { (s : List ℕ) → result ≡ apart (head_view s a) (head_view s b) }
 {
-    if slots::ends_by(a, b.start) {
-        return true;
-    }
-    slots::ends_by(b, a.start)
+    slots::ends_by(a, b.start) || slots::ends_by(b, a.start)
 }
 
 // ---- regions in order
@@ -130,18 +115,14 @@ pub fn gather(img: &[u8], sums: &[u8], g: Geometry, from: Cursor, keys: &mut [u6
 {
     let mut c = from;
     let mut i = keys.len();
-    loop {
-        match index::next_entry(img, sums, c) {
-            Next::End => return Some(i),
-            Next::Found(e, rest) => {
-                if !region_good(g, e) {
-                    return None;
-                }
-                i = put_region(keys, i, e);
-                c = rest;
-            }
+    while let Some((e, rest)) = index::next_entry(img, sums, c) {
+        if !region_good(g, e) {
+            return None;
         }
+        i = put_region(keys, i, e);
+        c = rest;
     }
+    Some(i)
 }
 
 // The block where the region of a key starts, and the block past it.
@@ -210,17 +191,13 @@ fn all_good(img: &[u8], sums: &[u8], g: Geometry, from: Cursor) -> bool
     ensures { result ≡ all (region_good (geometry_view g)) (entries_from img.now from) }
 {
     let mut c = from;
-    loop {
-        match index::next_entry(img, sums, c) {
-            Next::End => return true,
-            Next::Found(e, rest) => {
-                if !region_good(g, e) {
-                    return false;
-                }
-                c = rest;
-            }
+    while let Some((e, rest)) = index::next_entry(img, sums, c) {
+        if !region_good(g, e) {
+            return false;
         }
+        c = rest;
     }
+    true
 }
 
 // Whether a region shares no block with any from the cursor on.
@@ -229,17 +206,13 @@ fn apart_from_rest(img: &[u8], sums: &[u8], h: Head, from: Cursor) -> bool
     ensures { result ≡ all (apart (head_view img.now h)) (entries_from img.now from) }
 {
     let mut c = from;
-    loop {
-        match index::next_entry(img, sums, c) {
-            Next::End => return true,
-            Next::Found(e, rest) => {
-                if !regions_apart(h, e) {
-                    return false;
-                }
-                c = rest;
-            }
+    while let Some((e, rest)) = index::next_entry(img, sums, c) {
+        if !regions_apart(h, e) {
+            return false;
         }
+        c = rest;
     }
+    true
 }
 
 // Whether no two regions from the cursor on share a block.
@@ -248,17 +221,13 @@ fn all_apart(img: &[u8], sums: &[u8], from: Cursor) -> bool
     ensures { result ≡ every_two apart (entries_from img.now from) }
 {
     let mut c = from;
-    loop {
-        match index::next_entry(img, sums, c) {
-            Next::End => return true,
-            Next::Found(e, rest) => {
-                if !apart_from_rest(img, sums, e, rest) {
-                    return false;
-                }
-                c = rest;
-            }
+    while let Some((e, rest)) = index::next_entry(img, sums, c) {
+        if !apart_from_rest(img, sums, e, rest) {
+            return false;
         }
+        c = rest;
     }
+    true
 }
 
 // Whether the regions of the entries from the cursor on are sound, without scratch.
@@ -266,8 +235,5 @@ pub fn plainly_sound(img: &[u8], sums: &[u8], g: Geometry, from: Cursor) -> bool
     requires { Bounded g × Walks img.now from × SumsFrom img.now sums.now from }
     ensures { result ≡ regions_sound (geometry_view g) (entries_from img.now from) }
 {
-    if !all_good(img, sums, g, from) {
-        return false;
-    }
-    all_apart(img, sums, from)
+    all_good(img, sums, g, from) && all_apart(img, sums, from)
 }

@@ -1,14 +1,16 @@
 use mathlib.Core.Path.{refl, sym, ◌∙◌}
-use Rattle.index.specs.Steps.{Step, sums-step}
-use Rattle.index.specs.Turns.{told-end, told-found, two-end, two-stop, two-next}
+use Rattle.index.specs.Steps.{Told, Step, sums-step}
+use Rattle.index.specs.Turns.{two-end, two-stop, two-next}
 use Rattle.regions.proofs.all_apart.Goals as goal
-use Rattle.regions.proofs.all_apart.Goals.{In-Found}
+use Rattle.regions.proofs.all_apart.Goals.{In-Some}
 
-pub returns-in-End : goal.returns-in-End
-returns-in-End c = two-end _ _ (told-end _ _ _ c.next_entry.ensures c.in-End.is) ∙ c.loop-e.invariant.1
+pub returns : goal.returns
+unfolding Told
+returns c = two-end _ _ c.in_default.ensures ∙ c.loop-e.invariant.1
 
-step : (c : In-Found) → Step c.args.img.now c.loop-e.c c.in-Found.e c.in-Found.rest
-step c = told-found _ _ _ c.next_entry.ensures _ _ c.in-Found.is
+step : (c : In-Some) → Step c.args.img.now c.loop-e.c c.in-Some.e c.in-Some.rest
+unfolding Told
+step c = c.in-Some.ensures
 
 pub apart_from_rest-requires : goal.apart_from_rest-requires
 apart_from_rest-requires c =
@@ -17,12 +19,12 @@ apart_from_rest-requires c =
 
 pub returns-then-not-apart_from_rest : goal.returns-then-not-apart_from_rest
 returns-then-not-apart_from_rest c =
-    two-stop _ _ _ (step (goal.at.returns-then-not-apart_from_rest c).In-Found).entries _ (sym c.apart_from_rest.ensures ∙ c.if-not-apart_from_rest.true) ∙ c.loop-e.invariant.1
+    two-stop _ _ _ (step (goal.at.returns-then-not-apart_from_rest c).In-Some).entries _ (sym c.apart_from_rest.ensures ∙ c.if-not-apart_from_rest.true) ∙ c.loop-e.invariant.1
 
 pub loop-e-preserved : goal.loop-e-preserved
 loop-e-preserved c =
     let l = c.loop-e in
-    ((step (goal.at.loop-e-preserved c).In-Found).walks, two-next _ _ _ (step (goal.at.loop-e-preserved c).In-Found).entries _ (sym c.apart_from_rest.ensures ∙ c.if-not-apart_from_rest.false) ∙ l.invariant.1, sums-step _ _ l.c l.invariant.2 _ _ (step (goal.at.loop-e-preserved c).In-Found))
+    ((step (goal.at.loop-e-preserved c).In-Some).walks, two-next _ _ _ (step (goal.at.loop-e-preserved c).In-Some).entries _ (sym c.apart_from_rest.ensures ∙ c.if-not-apart_from_rest.false) ∙ l.invariant.1, sums-step _ _ l.c l.invariant.2 _ _ (step (goal.at.loop-e-preserved c).In-Some))
 
 pub loop-e-init : goal.loop-e-init
 loop-e-init c = let p = c.requires in (p.0, refl, p.1)
@@ -31,4 +33,4 @@ pub next_entry-requires : goal.next_entry-requires
 next_entry-requires c = (c.loop-e.invariant.0, c.loop-e.invariant.2)
 
 pub loop-e-smaller : goal.loop-e-smaller
-loop-e-smaller c = (step (goal.at.loop-e-smaller c).In-Found).less
+loop-e-smaller c = (step (goal.at.loop-e-smaller c).In-Some).less

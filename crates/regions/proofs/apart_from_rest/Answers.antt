@@ -1,23 +1,25 @@
 use mathlib.Core.Path.{refl, sym, ◌∙◌}
-use Rattle.index.specs.Steps.{Step, sums-step}
-use Rattle.index.specs.Turns.{told-end, told-found, all_end, all-stop, all-next}
+use Rattle.index.specs.Steps.{Told, Step, sums-step}
+use Rattle.index.specs.Turns.{all_end, all-stop, all-next}
 use Rattle.regions.proofs.apart_from_rest.Goals as goal
-use Rattle.regions.proofs.apart_from_rest.Goals.{In-Found}
+use Rattle.regions.proofs.apart_from_rest.Goals.{In-Some}
 
-pub returns-in-End : goal.returns-in-End
-returns-in-End c = all_end _ _ (told-end _ _ _ c.next_entry.ensures c.in-End.is) ∙ c.loop-e.invariant.1
+pub returns : goal.returns
+unfolding Told
+returns c = all_end _ _ c.in_default.ensures ∙ c.loop-e.invariant.1
 
-step : (c : In-Found) → Step c.args.img.now c.loop-e.c c.in-Found.e c.in-Found.rest
-step c = told-found _ _ _ c.next_entry.ensures _ _ c.in-Found.is
+step : (c : In-Some) → Step c.args.img.now c.loop-e.c c.in-Some.e c.in-Some.rest
+unfolding Told
+step c = c.in-Some.ensures
 
 pub returns-then-not-regions_apart : goal.returns-then-not-regions_apart
 returns-then-not-regions_apart c =
-    all-stop _ _ _ (step (goal.at.returns-then-not-regions_apart c).In-Found).entries _ (sym (c.regions_apart.ensures _) ∙ c.if-not-regions_apart.true) ∙ c.loop-e.invariant.1
+    all-stop _ _ _ (step (goal.at.returns-then-not-regions_apart c).In-Some).entries _ (sym (c.regions_apart.ensures _) ∙ c.if-not-regions_apart.true) ∙ c.loop-e.invariant.1
 
 pub loop-e-preserved : goal.loop-e-preserved
 loop-e-preserved c =
     let l = c.loop-e in
-    ((step (goal.at.loop-e-preserved c).In-Found).walks, all-next _ _ _ (step (goal.at.loop-e-preserved c).In-Found).entries _ (sym (c.regions_apart.ensures _) ∙ c.if-not-regions_apart.false) ∙ l.invariant.1, sums-step _ _ l.c l.invariant.2 _ _ (step (goal.at.loop-e-preserved c).In-Found))
+    ((step (goal.at.loop-e-preserved c).In-Some).walks, all-next _ _ _ (step (goal.at.loop-e-preserved c).In-Some).entries _ (sym (c.regions_apart.ensures _) ∙ c.if-not-regions_apart.false) ∙ l.invariant.1, sums-step _ _ l.c l.invariant.2 _ _ (step (goal.at.loop-e-preserved c).In-Some))
 
 pub loop-e-init : goal.loop-e-init
 loop-e-init c = let p = c.requires in (p.0, refl, p.1)
@@ -26,4 +28,4 @@ pub next_entry-requires : goal.next_entry-requires
 next_entry-requires c = (c.loop-e.invariant.0, c.loop-e.invariant.2)
 
 pub loop-e-smaller : goal.loop-e-smaller
-loop-e-smaller c = (step (goal.at.loop-e-smaller c).In-Found).less
+loop-e-smaller c = (step (goal.at.loop-e-smaller c).In-Some).less
