@@ -1,8 +1,8 @@
 -- Regions gathered and put in order.
-use Rattle.std.specs.Prelude.{ℕ, ◌+◌, ◌/◌, ◌≤◌, ◌<◌, ◌≡◌, Bool, ◌&&◌, length, get_or, ltb, leb, Option, Some, None}
+use Rattle.std.specs.Prelude.{ℕ, ◌+◌, ◌/◌, ◌≤◌, ◌≡◌, Bool, ◌&&◌, length, ltb, Option, Some, None}
 use Rattle.std.specs.Bool.{then_some}
 use Rattle.std.proofs.Math.Path.{refl, ap}
-use Rattle.std.proofs.Common.{sym, ◌∙◌, arith, drop_of_length-le}
+use Rattle.std.proofs.Common.{sym, ◌∙◌, arith}
 use Rattle.std.proofs.Math.Bool.{true, false}
 use mathlib.Core.List.{List, [], ◌∷◌, ◌++◌, map, append_assoc, append-nil}
 use Rattle.std.proofs.Math.ListN.{drop}
@@ -21,9 +21,8 @@ use Rattle.laws.proofs.Lists.Every.{all-weaken, all-and, all-says, pairs-weaken}
 use Rattle.ordering.specs.Order.{turned, Sorted}
 use Rattle.ordering.specs.Keys.{number_of, key_rest, key_le}
 use Rattle.ordering.specs.Paths.{path_le}
-use Rattle.ordering.specs.Starts.{here-and-behind}
 use Rattle.ordering.specs.Turning.{turned-perm}
-use Rattle.ordering.specs.Regions.{region_key, has_region, key_start, key_end, in_turn, Small, all-filled}
+use Rattle.ordering.specs.Regions.{region_key, has_region, in_turn, Small, all-filled}
 use Rattle.ordering.proofs.Regions.{in-turn-ascends, in-turn-decides}
 use Rattle.editions.specs.View.{edition_view}
 use Rattle.slots.specs.declared.Head.{Head}
@@ -156,21 +155,6 @@ module _ (s : List ℕ) (g : Geometry) (from : Cursor) where
           ∙ ap (λ (es : List Entry). region_keys es ++ drop i keys) (sym step.entries)
           ∙ at.gathered;
     }
-
--- ---- the loop that goes from key to key
-module _ (ks : List ℕ) (b i : ℕ) where
-  pub turn_end : length ks ≤ i → true ≡ in_turn b (drop i ks)
-  unfolding in_turn
-  turn_end h = rw (drop_of_length-le ks h)
-
-  module _ (k : ℕ) (h : i < length ks) (here : k ≡ get_or ks i 0) where
-    pub turn-stop : leb b (key_start k) ≡ false → false ≡ in_turn b (drop i ks)
-    unfolding in_turn
-    turn-stop e = rw (here-and-behind ks i k h here, e)
-
-    pub turn-next : leb b (key_start k) ≡ true → in_turn (key_end k) (drop (i + 1) ks) ≡ in_turn b (drop i ks)
-    unfolding in_turn
-    turn-next e = rw (here-and-behind ks i k h here, e)
 
 -- ---- what putting keys in order comes to: the same keys, and they ascend
 pub record InTheirOrder (before after : List ℕ) : Type 0 where

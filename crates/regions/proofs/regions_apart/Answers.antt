@@ -5,8 +5,8 @@ use Rattle.regions.proofs.regions_apart.Goals as goal
 
 pub returns-then-ends_by : goal.returns-then-ends_by
 unfolding apart head_view
-returns-then-ends_by c s = rw (sym (c.ends_by.ensures s) ∙ c.if-ends_by.true)
+returns-then-ends_by c s = rw (sym (c.ends_by.ensures s) ∙ c.if-ends_by.true) c.if-ends_by.true
 
-pub returns : goal.returns
+pub returns-else-ends_by : goal.returns-else-ends_by
 unfolding apart head_view
-returns c s = rw (sym (c.ends_by.ensures s) ∙ c.if-ends_by.false) (c.ends_by-2.ensures s)
+returns-else-ends_by c s = rw (sym (c.ends_by.ensures s) ∙ c.if-ends_by.false) (c.ends_by-else-ends_by.ensures s)
