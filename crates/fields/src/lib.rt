@@ -14,27 +14,30 @@ pub fn wide(x: u8) -> u64
     x as u64
 }
 
-// Four bytes written out: the machine reads them at once then.
-fn le4(s: &[u8], i: usize) -> u64
-    requires { i + 4 ≤ length s.now }
-    ensures { (result ≡ le 4 s.now i) × (result < 2 ^ 32) }
-{
-    wide(s[i]) + 256 * wide(s[i + 1]) + 65_536 * wide(s[i + 2]) + 16_777_216 * wide(s[i + 3])
-}
-
+// The bytes are written out, so that no part is cut out of s: the machine reads them at once then.
 pub fn le64_at(s: &[u8], at: Offset) -> u64
     requires { at.0 + 8 ≤ length s.now }
     ensures { result ≡ le 8 s.now at.0 }
 {
     let i = at.index();
-    le4(s, i) + 4_294_967_296 * le4(s, i + 4)
+    u64::from_le_bytes([
+        s[i],
+        s[i + 1],
+        s[i + 2],
+        s[i + 3],
+        s[i + 4],
+        s[i + 5],
+        s[i + 6],
+        s[i + 7],
+    ])
 }
 
 pub fn le32_at(s: &[u8], at: Offset) -> u32
     requires { at.0 + 4 ≤ length s.now }
     ensures { result ≡ le 4 s.now at.0 }
 {
-    le4(s, at.index()) as u32
+    let i = at.index();
+    u32::from_le_bytes([s[i], s[i + 1], s[i + 2], s[i + 3]])
 }
 
 // Writes the w lowest bytes of v from `at` on.
@@ -42,14 +45,12 @@ pub fn put_le(s: &mut [u8], at: Offset, w: usize, v: u64)
     requires { at.0 + w ≤ length s.old }
     ensures { s.new ≡ splice s.old at.0 (le_bytes w v) }
 {
-    let mut o = at.index();
-    let mut n = w;
+    let start = at.index();
+    let end = start + w;
     let mut x = v;
-    while 0 < n {
-        s[o] = (x % 256) as u8;
-        o += 1;
-        n -= 1;
-        x = x / 256;
+    for byte in &mut s[start..end] {
+        *byte = (x % 256) as u8;
+        x /= 256;
     }
 }
 
@@ -65,13 +66,11 @@ pub fn put_stamp(s: &mut [u8], at: Offset, bits: u64)
 pub fn sum_of(s: &[u8]) -> u64
     ensures { result ≡ byte_sum s.now % 256 }
 {
-    let mut r: u64 = 0;
-    let mut i = 0;
-    while i < s.len() {
-        r = (r + wide(s[i])) % 256;
-        i += 1;
+    let mut r: u8 = 0;
+    for &b in s {
+        r = r.wrapping_add(b);
     }
-    r
+    u64::from(r)
 }
 
 // Whether the bytes sum to 0 modulo 256.
@@ -92,12 +91,5 @@ pub fn checksum(s: &[u8]) -> u8
 pub fn zero_at(s: &[u8]) -> usize
     ensures { (result ≡ length (up_to_zero s.now)) × (result ≤ length s.now) }
 {
-    let mut i = 0;
-    while i < s.len() {
-        if s[i] == 0 {
-            return i;
-        }
-        i += 1;
-    }
-    i
+    s.iter().position(|b| *b == 0).unwrap_or(s.len())
 }

@@ -1,11 +1,7 @@
-use Prim.Native.Nat.{◌+◌, ◌-◌}
+use Prim.Native.Nat.{◌-◌}
 use mathlib.Core.Path.{◌≡◌}
-use lib.ListN.{length}
 use Rattle.rules.specs.Fields.{splice, le_bytes}
 use Rattle.fields.proofs.put_le.Given as goal
 
-abbrev pub invariant-loop-n : goal.invariant-loop-n
-invariant-loop-n l = (l.o + l.n ≡ l.initial.o + l.w) × (length l.s ≡ length l.initial.s) × (splice l.s l.o (le_bytes l.n l.x) ≡ splice l.initial.s l.initial.o (le_bytes l.w l.v))
-
-abbrev pub decreases-loop-n : goal.decreases-loop-n
-decreases-loop-n l = l.n
+abbrev pub invariant-loop-byte : goal.invariant-loop-byte
+invariant-loop-byte l = splice l.byte-items l.byte-index (le_bytes (l.w - l.byte-index) l.x) ≡ le_bytes l.w l.v
