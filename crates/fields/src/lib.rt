@@ -11,7 +11,7 @@ use units::Offset;
 pub fn wide(x: u8) -> u64
     ensures { (result ≡ x) × (result < 256) }
 {
-    x as u64
+    u64::from(x)
 }
 
 // The bytes are written out, so that no part is cut out of s: the machine reads them at once then.
