@@ -1,5 +1,5 @@
 -- The code's walk in the rules' words.
-use Rattle.std.specs.Prelude.{ℕ, ◌+◌, ◌-◌, ◌*◌, ◌≤◌, ◌<◌, ◌≡◌, refl, Bool, true, false, ◌&&◌, List, length, get_or, take, drop, eqb}
+use Rattle.std.specs.Prelude.{ℕ, ◌+◌, ◌-◌, ◌*◌, ◌≤◌, ◌<◌, ◌≡◌, refl, Bool, true, false, ◌&&◌, List, length, get_or, take, drop, eqb, Option, None, Some}
 use Rattle.std.proofs.Math.Path.{sym, ap}
 use Rattle.std.proofs.Common.{subst, ◌∙◌, arith, eq-eqb, ne_eqb, drop-drop}
 use Rattle.rules.specs.Lists.{pick, all}
@@ -35,6 +35,15 @@ step_at ed left a =
     (pick (run_type (byte_at a 0)) (run_step ed left a)
     (pick (eqb (byte_at a 0) type_unusable) (unusable_step ed a)
     (pick (stray_type (byte_at a 0)) 0 1)))
+
+-- a step of n slots as it is answered, where m are left: none if n is 0, at a fault
+abbrev pub StepIs : ℕ → ℕ → Option ℕ → Type 0
+StepIs m n None = n ≡ 0
+StepIs m n (Some k) = (k ≡ n) × (0 < k) × (k ≤ m)
+
+pub step-same : (l m n j : ℕ) (r : Option ℕ) → l ≤ m → n ≡ j → StepIs l n r → StepIs m j r
+step-same l m n j None h e s = sym e ∙ s
+step-same l m n j (Some k) h e s = (s.0 ∙ e, s.1, omega (arith, s.2))
 
 -- a choice between items, and between their steps
 pick-step : (b : Bool) (x y : Item) → step_of (pick b x y) ≡ pick b (step_of x) (step_of y)

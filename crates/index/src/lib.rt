@@ -7,7 +7,7 @@ ghost use Rattle.rules.specs.Index.Items.{faultless, step_slots};
 ghost use Rattle.rules.specs.Writing.{lowest_unused};
 ghost use Rattle.editions.specs.View.{edition_view};
 ghost use Rattle.sums.specs.Summed.{Summed};
-ghost use Rattle.index.specs.View.{SumsFrom, Behind, run_step, unusable_step, step_at, Inside, Past, items_from};
+ghost use Rattle.index.specs.View.{SumsFrom, Behind, run_step, unusable_step, step_at, StepIs, Inside, Past, items_from};
 ghost use Rattle.index.specs.Steps.{Walks, Onward, Stops, Told};
 ghost use Rattle.index.specs.Unused.{unused_view};
 
@@ -47,36 +47,40 @@ fn past(c: Cursor, n: u64) -> Cursor
 
 // ---- whether the index is sound
 
-// The slots of the run at `at`, 0 where it is at fault.
-fn run_step(img: &[u8], sums: &[u8], ed: Edition, at: Offset, k: Slot, left: u64) -> u64
+// The slots of the run at `at`, none where it is at fault.
+fn run_step(img: &[u8], sums: &[u8], ed: Edition, at: Offset, k: Slot, left: u64) -> Option<u64>
     requires { (0 < left) × (at.0 + 64 * left ≤ length img.now) × Summed (edition_view ed) img.now sums.now at.0 k.0 left }
-    ensures { (result ≡ run_step (edition_view ed) left (drop at.0 img.now)) × (result ≤ left) }
+    ensures { StepIs left (run_step (edition_view ed) left (drop at.0 img.now)) result }
 {
     if !slots::is_whole(img, sums, ed, at, k, left) {
-        return 0;
+        return None;
     }
     if !names::path_field_good(slots::name_field(img, ed, at)) {
-        return 0;
+        return None;
     }
-    slots::slots_at(img, ed, at)
+    Some(slots::slots_at(img, ed, at))
 }
 
-// One slot for an unusable entry at `at`, 0 where its sum is wrong.
-fn unusable_step(img: &[u8], sums: &[u8], ed: Edition, at: Offset, k: Slot) -> u64
+// One slot for an unusable entry at `at`, none where its sum is wrong.
+fn unusable_step(img: &[u8], sums: &[u8], ed: Edition, at: Offset, k: Slot) -> Option<u64>
     requires { Summed (edition_view ed) img.now sums.now at.0 k.0 1 }
-    ensures { (result ≡ unusable_step (edition_view ed) (drop at.0 img.now)) × (result ≤ 1) }
+    ensures { StepIs 1 (unusable_step (edition_view ed) (drop at.0 img.now)) result }
 {
-    if sums::is_good(ed, sums, k, 1) { 1 } else { 0 }
+    if sums::is_good(ed, sums, k, 1) {
+        Some(1)
+    } else {
+        None
+    }
 }
 
-// The slots of what stands at `at`, 0 where it is at fault.
-fn slot_step(img: &[u8], sums: &[u8], ed: Edition, at: Offset, k: Slot, left: u64) -> u64
+// The slots of what stands at `at`, none where it is at fault.
+fn slot_step(img: &[u8], sums: &[u8], ed: Edition, at: Offset, k: Slot, left: u64) -> Option<u64>
     requires { (0 < left) × (at.0 + 64 * left ≤ length img.now) × Summed (edition_view ed) img.now sums.now at.0 k.0 left }
-    ensures { (result ≡ step_at (edition_view ed) left (drop at.0 img.now)) × (result ≤ left) }
+    ensures { StepIs left (step_at (edition_view ed) left (drop at.0 img.now)) result }
 {
     let kind = slots::kind_at(img, at);
     if slots::is_stale(ed, kind) {
-        return slots::stale_slots(img, sums, ed, at, k, left, kind);
+        return Some(slots::stale_slots(img, sums, ed, at, k, left, kind));
     }
     if slots::is_run(kind) {
         return run_step(img, sums, ed, at, k, left);
@@ -85,9 +89,9 @@ fn slot_step(img: &[u8], sums: &[u8], ed: Edition, at: Offset, k: Slot, left: u6
         return unusable_step(img, sums, ed, at, k);
     }
     if slots::is_stray(kind) {
-        return 0;
+        return None;
     }
-    1
+    Some(1)
 }
 
 // Whether no slot from the cursor on is at fault.
@@ -97,10 +101,9 @@ pub fn walk_sound(img: &[u8], sums: &[u8], from: Cursor) -> bool
 {
     let mut c = from;
     while 0 < c.left {
-        let n = slot_step(img, sums, c.edition, c.at, c.slot, c.left);
-        if n == 0 {
+        let Some(n) = slot_step(img, sums, c.edition, c.at, c.slot, c.left) else {
             return false;
-        }
+        };
         c = past(c, n);
     }
     true
@@ -108,26 +111,32 @@ pub fn walk_sound(img: &[u8], sums: &[u8], from: Cursor) -> bool
 
 // ---- from entry to entry
 
+// What stands at the cursor, of this kind and n slots, and the cursor behind it.
+fn step_over(c: Cursor, kind: u8, n: u64) -> Ahead
+    requires { (n ≤ c.left) × (c.at.0 + 64 * c.left ≤ 16_777_216) × (c.slot.0 + c.left ≤ 16_777_216) }
+    ensures here { (result.here.edition ≡ c.edition) × (result.here.at.0 ≡ c.at.0) × (result.here.slot.0 ≡ c.slot.0) × (result.here.kind ≡ kind) }
+    ensures rest { Past c n result.rest }
+{
+    let here = Spot {
+        edition: c.edition,
+        at: c.at,
+        kind,
+        slot: c.slot,
+    };
+    Ahead {
+        here,
+        rest: past(c, n),
+    }
+}
+
 // What stands at the cursor, and the cursor behind it.
 pub fn further(img: &[u8], sums: &[u8], c: Cursor) -> Ahead
     requires { Walks img.now c × (0 < c.left) × SumsFrom img.now sums.now c }
     ensures { Onward img.now c result.here result.rest }
 {
-    let edition = c.edition;
-    let at = c.at;
-    let slot = c.slot;
-    let kind = slots::kind_at(img, at);
-    let rest = past(
-        c,
-        slots::slots_from(img, sums, edition, at, slot, c.left, kind),
-    );
-    let here = Spot {
-        edition,
-        at,
-        kind,
-        slot,
-    };
-    Ahead { here, rest }
+    let kind = slots::kind_at(img, c.at);
+    let n = slots::slots_from(img, sums, c.edition, c.at, c.slot, c.left, kind);
+    step_over(c, kind, n)
 }
 
 // The same where it takes one slot: the cursor behind it does not wait for a count.
@@ -135,18 +144,7 @@ pub fn single(img: &[u8], c: Cursor) -> Ahead
     requires { Walks img.now c × (0 < c.left) × (step_slots (edition_view c.edition) c.left (drop c.at.0 img.now) ≡ 1) }
     ensures { Onward img.now c result.here result.rest }
 {
-    let edition = c.edition;
-    let at = c.at;
-    let slot = c.slot;
-    let kind = slots::kind_at(img, at);
-    let rest = past(c, 1);
-    let here = Spot {
-        edition,
-        at,
-        kind,
-        slot,
-    };
-    Ahead { here, rest }
+    step_over(c, slots::kind_at(img, c.at), 1)
 }
 
 // The next entry from the cursor on, by where it stands, and the cursor behind it: unused slots are passed over.
@@ -203,12 +201,8 @@ pub fn lowest_unused(img: &[u8], sums: &[u8], from: Cursor, n: u64) -> Option<Sl
     let mut c = from;
     let mut first = from.slot;
     while 0 < c.left {
-        let kind = slots::kind_at(img, c.at);
-        let rest = past(
-            c,
-            slots::slots_from(img, sums, c.edition, c.at, c.slot, c.left, kind),
-        );
-        if slots::is_entry(c.edition, kind) {
+        let Ahead { here, rest } = further(img, sums, c);
+        if slots::is_entry(here.edition, here.kind) {
             c = past_singles(img, rest);
             first = c.slot;
         } else {

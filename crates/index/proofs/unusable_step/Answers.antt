@@ -12,10 +12,10 @@ pub returns-then-is_good : goal.returns-then-is_good
 unfolding unusable_step
 returns-then-is_good c =
     let here = summed-here _ _ _ _ _ _ c.requires 1 (omega arith) in
-    (sym (pick_true _ _ (sym here ∙ sym c.is_good.ensures ∙ c.if-is_good.true)), omega arith)
+    (sym (pick_true _ _ (sym here ∙ sym c.is_good.ensures ∙ c.if-is_good.true)), omega arith, omega arith)
 
 pub returns-else-is_good : goal.returns-else-is_good
 unfolding unusable_step
 returns-else-is_good c =
     let here = summed-here _ _ _ _ _ _ c.requires 1 (omega arith) in
-    (sym (pick-false _ _ (sym here ∙ sym c.is_good.ensures ∙ c.if-is_good.false)), omega arith)
+    pick-false _ _ (sym here ∙ sym c.is_good.ensures ∙ c.if-is_good.false)
