@@ -36,9 +36,8 @@ fn past(c: Cursor, n: u64) -> Cursor
     requires { (n ≤ c.left) × (c.at.0 + 64 * c.left ≤ 16_777_216) × (c.slot.0 + c.left ≤ 16_777_216) }
     ensures { Past c n result }
 {
-    let edition = c.edition;
     Cursor {
-        edition,
+        edition: c.edition,
         at: c.at.after_slots(n),
         slot: c.slot.after(n),
         left: c.left - n,
@@ -66,11 +65,7 @@ fn unusable_step(img: &[u8], sums: &[u8], ed: Edition, at: Offset, k: Slot) -> O
     requires { Summed (edition_view ed) img.now sums.now at.0 k.0 1 }
     ensures { StepIs 1 (unusable_step (edition_view ed) (drop at.0 img.now)) result }
 {
-    if sums::is_good(ed, sums, k, 1) {
-        Some(1)
-    } else {
-        None
-    }
+    sums::is_good(ed, sums, k, 1).then_some(1)
 }
 
 // The slots of what stands at `at`, none where it is at fault.
