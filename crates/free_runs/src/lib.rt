@@ -16,25 +16,16 @@ ghost use Rattle.regions.specs.Gathering.{HasRegions};
 ghost use Rattle.free_runs.specs.View.{free_view, is_gone, staying};
 ghost use Rattle.free_runs.specs.Sums.{file_blocks, kept_end};
 
-use index::{Cursor, Next};
+use index::Cursor;
 use slots::Head;
 use units::{Block, Slot};
 
-#[derive(Clone, Copy)]
-pub enum Free {
-    Nothing,
-    At(Block),
-}
-
-// The blocks of `len` bytes that a file of so many bytes needs. It is rounded up without a sum, which could wrap.
+// The blocks of `len` bytes that a file of so many bytes needs.
 pub fn blocks_needed(len: u64, bytes: u64) -> u64
     requires { 0 < len }
     ensures { result ≡ blocks_needed len bytes }
 {
-    if bytes % len == 0 {
-        return bytes / len;
-    }
-    bytes / len + 1
+    bytes.div_ceil(len)
 }
 
 // ---- the lowest free run
@@ -44,31 +35,25 @@ fn free_from(keys: &[u64], from: usize, k: u64, low: Block) -> Block
     ensures { result.0 ≡ free_from k low.0 (drop from keys.now) }
 {
     let mut b = low;
-    let mut i = from;
-    while i < keys.len() {
-        let key = keys[i];
+    for &key in keys.iter().skip(from) {
         if b.has_room(k, regions::key_start(key)) {
             return b;
         }
         b = b.later(regions::key_end(key));
-        i += 1;
     }
     b
 }
 
 // The answer of a search that stops at b: k blocks from there on, if they end at or below `ceiling`.
-fn free_below(b: Block, k: u64, ceiling: Block) -> Free
+fn free_below(b: Block, k: u64, ceiling: Block) -> Option<Block>
     ensures { free_view result ≡ pick (leb (b.0 + k) ceiling.0) (some b.0) none }
 {
-    if !b.has_room(k, ceiling) {
-        return Free::Nothing;
-    }
-    Free::At(b)
+    b.has_room(k, ceiling).then_some(b)
 }
 
 // The lowest start, at or past `low`, of k blocks that end at or below `ceiling` and that are free of the regions of the keys from place i on.
 // These are in order, and the search passes over them once.
-pub fn lowest_free(keys: &[u64], i: usize, k: u64, low: Block, ceiling: Block) -> Free
+pub fn lowest_free(keys: &[u64], i: usize, k: u64, low: Block, ceiling: Block) -> Option<Block>
     requires { 1 ≤ k }
     ensures { (es : List Entry) → HasRegions es (drop i keys.now) → free_view result ≡ lowest_free es k low.0 ceiling.0 }
 {
@@ -83,10 +68,11 @@ fn file_blocks(h: Head) -> u64
     requires { h.end.0 + 1 < 2 ^ 64 }
     ensures { (s : List ℕ) → result ≡ file_blocks (head_view s h) }
 {
-    if !slots::is_file(h.kind) {
-        return 0;
+    if slots::is_file(h.kind) {
+        slots::past_end(h).blocks_past(h.start)
+    } else {
+        0
     }
-    slots::past_end(h).blocks_past(h.start)
 }
 
 // The blocks of live and deleted files from the cursor on.
@@ -96,15 +82,11 @@ pub fn held_blocks(img: &[u8], sums: &[u8], from: Cursor) -> u64
 {
     let mut c = from;
     let mut held = 0;
-    loop {
-        match index::next_entry(img, sums, c) {
-            Next::End => return held,
-            Next::Found(e, rest) => {
-                held += file_blocks(e);
-                c = rest;
-            }
-        }
+    while let Some((e, rest)) = index::next_entry(img, sums, c) {
+        held += file_blocks(e);
+        c = rest;
     }
+    held
 }
 
 // The entries that a call takes away: all deleted ones, or the one whose first slot this is.
@@ -119,7 +101,7 @@ fn is_gone(h: Head, gone: Gone) -> bool
 {
     match gone {
         Gone::Deleted => slots::is_deleted(h.kind),
-        Gone::At(slot) => h.slot.number() == slot.number(),
+        Gone::At(slot) => h.slot == slot,
     }
 }
 
@@ -129,9 +111,10 @@ fn kept_end(h: Head, gone: Gone) -> Block
     ensures { (s : List ℕ) → result.0 ≡ kept_end (is_gone gone) (head_view s h) }
 {
     if is_gone(h, gone) {
-        return Block::at(0);
+        Block::at(0)
+    } else {
+        slots::past_end(h)
     }
-    slots::past_end(h)
 }
 
 // The least end that the data area can have once these entries are gone.
@@ -141,13 +124,9 @@ pub fn last_end(img: &[u8], sums: &[u8], from: Cursor, gone: Gone) -> Block
 {
     let mut c = from;
     let mut last = Block::at(0);
-    loop {
-        match index::next_entry(img, sums, c) {
-            Next::End => return last,
-            Next::Found(e, rest) => {
-                last = last.later(kept_end(e, gone));
-                c = rest;
-            }
-        }
+    while let Some((e, rest)) = index::next_entry(img, sums, c) {
+        last = last.later(kept_end(e, gone));
+        c = rest;
     }
+    last
 }

@@ -5,10 +5,10 @@ use Rattle.slots.specs.View.{head_view}
 use Rattle.free_runs.specs.Sums.{file_blocks}
 use Rattle.free_runs.proofs.file_blocks.Goals as goal
 
-pub returns-then-not-is_file : goal.returns-then-not-is_file
+pub returns-else-is_file : goal.returns-else-is_file
 unfolding file_blocks head_view pick
-returns-then-not-is_file c s = rw (sym c.is_file.ensures ∙ c.if-not-is_file.true)
+returns-else-is_file c s = rw (sym c.is_file.ensures ∙ c.if-is_file.false)
 
-pub returns : goal.returns
+pub returns-then-is_file : goal.returns-then-is_file
 unfolding file_blocks head_view blocks_of pick
-returns c s = rw (sym c.is_file.ensures ∙ c.if-not-is_file.false, ← c.past_end.ensures s) c.blocks_past.ensures
+returns-then-is_file c s = rw (sym c.is_file.ensures ∙ c.if-is_file.true, ← c.past_end.ensures s) c.blocks_past.ensures

@@ -10,4 +10,4 @@ returns-in-Deleted c s = c.is_deleted.ensures ∙ sym (gone-deleted _ c.in-Delet
 
 pub returns-in-At : goal.returns-in-At
 unfolding head_view
-returns-in-At c s = rw (c.number.ensures, c.number-in-At.ensures) (sym (gone_at_lem _ _ c.in-At.is (head_view s c.args.h)))
+returns-in-At c s = rw c.eq.ensures (sym (gone_at_lem _ _ c.in-At.is (head_view s c.args.h)))

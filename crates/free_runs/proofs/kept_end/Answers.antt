@@ -7,6 +7,6 @@ pub returns-then-is_gone : goal.returns-then-is_gone
 unfolding kept_end pick
 returns-then-is_gone c s = rw (sym (c.is_gone.ensures s) ∙ c.if-is_gone.true) c.at.ensures
 
-pub returns : goal.returns
+pub returns-else-is_gone : goal.returns-else-is_gone
 unfolding kept_end pick
-returns c s = rw (sym (c.is_gone.ensures s) ∙ c.if-is_gone.false) (c.past_end.ensures s)
+returns-else-is_gone c s = rw (sym (c.is_gone.ensures s) ∙ c.if-is_gone.false) (c.past_end.ensures s)

@@ -2,35 +2,36 @@ use native.Mathlib.Omega.{arith}
 use Rattle.rules.specs.Lists.{All}
 use Rattle.slots.specs.View.{head_view}
 use Rattle.ordering.specs.Regions.{Small}
-use Rattle.index.specs.Steps.{Step, entries_from, sums-step}
-use Rattle.index.specs.Turns.{told-end, told-found}
+use Rattle.index.specs.Steps.{Told, Step, entries_from, sums-step}
 use Rattle.free_runs.specs.View.{is_gone}
 use Rattle.free_runs.specs.Sums.{least-end, least-next, small-stored, small-next}
 use Rattle.free_runs.proofs.last_end.Goals as goal
-use Rattle.free_runs.proofs.last_end.Goals.{In-Found}
+use Rattle.free_runs.proofs.last_end.Goals.{In-Some}
 
-pub loop-last-init : goal.loop-last-init
-loop-last-init c = let p = c.requires in (p.0, p.1, omega (arith, c.at-last.ensures), p.2)
+pub loop-e-init : goal.loop-e-init
+loop-e-init c = let p = c.requires in (p.0, p.1, omega (arith, c.at-last.ensures), p.2)
 
-pub returns-in-End : goal.returns-in-End
-returns-in-End c = omega (arith, least-end (is_gone c.args.gone) _ (told-end _ _ _ c.next_entry.ensures c.in-End.is), c.loop-last.invariant.2)
+pub returns : goal.returns
+unfolding Told
+returns c = omega (arith, least-end (is_gone c.args.gone) _ c.in_default.ensures, c.loop-e.invariant.2)
 
-step : (c : In-Found) → Step c.args.img.now c.loop-last.c c.in-Found.e c.in-Found.rest
-step c = told-found _ _ _ c.next_entry.ensures _ _ c.in-Found.is
+step : (c : In-Some) → Step c.args.img.now c.loop-e.c c.in-Some.e c.in-Some.rest
+unfolding Told
+step c = c.in-Some.ensures
 
-small : (c : In-Found) → let s = c.args.img.now in
-    Small (head_view s c.in-Found.e) × All Small (entries_from s c.in-Found.rest)
-small c = small-next _ _ _ (step c).entries c.loop-last.invariant.1
+small : (c : In-Some) → let s = c.args.img.now in
+    Small (head_view s c.in-Some.e) × All Small (entries_from s c.in-Some.rest)
+small c = small-next _ _ _ (step c).entries c.loop-e.invariant.1
 
-pub loop-last-preserved : goal.loop-last-preserved
-loop-last-preserved c =
-    ((step (goal.at.loop-last-preserved c).In-Found).walks, (small (goal.at.loop-last-preserved c).In-Found).1, omega (arith, least-next (is_gone c.args.gone) _ _ _ (step (goal.at.loop-last-preserved c).In-Found).entries, c.later-last.ensures, c.kept_end.ensures c.args.img.now, c.loop-last.invariant.2), sums-step _ _ c.loop-last.c c.loop-last.invariant.3 _ _ (step (goal.at.loop-last-preserved c).In-Found))
+pub loop-e-preserved : goal.loop-e-preserved
+loop-e-preserved c =
+    ((step (goal.at.loop-e-preserved c).In-Some).walks, (small (goal.at.loop-e-preserved c).In-Some).1, omega (arith, least-next (is_gone c.args.gone) _ _ _ (step (goal.at.loop-e-preserved c).In-Some).entries, c.later-last.ensures, c.kept_end.ensures c.args.img.now, c.loop-e.invariant.2), sums-step _ _ c.loop-e.c c.loop-e.invariant.3 _ _ (step (goal.at.loop-e-preserved c).In-Some))
 
 pub next_entry-requires : goal.next_entry-requires
-next_entry-requires c = (c.loop-last.invariant.0, c.loop-last.invariant.3)
+next_entry-requires c = (c.loop-e.invariant.0, c.loop-e.invariant.3)
 
 pub kept_end-requires : goal.kept_end-requires
 kept_end-requires c = small-stored _ _ (small c).0
 
-pub loop-last-smaller : goal.loop-last-smaller
-loop-last-smaller c = (step (goal.at.loop-last-smaller c).In-Found).less
+pub loop-e-smaller : goal.loop-e-smaller
+loop-e-smaller c = (step (goal.at.loop-e-smaller c).In-Some).less

@@ -9,8 +9,8 @@ use Rattle.free_runs.specs.View.{staying}
 use Rattle.free_runs.proofs.last_end.Given as goal
 
 -- The latest end so far with those of the entries from the cursor on is that of all.
-abbrev pub invariant-loop-last : goal.invariant-loop-last
-invariant-loop-last l = Walks l.img l.c × All Small (entries_from l.img l.c) × (max l.last.0 (least_end (staying l.gone (entries_from l.img l.c))) ≡ least_end (staying l.gone (entries_from l.img l.initial.c))) × SumsFrom l.img l.sums l.c
+abbrev pub invariant-loop-e : goal.invariant-loop-e
+invariant-loop-e l = Walks l.img l.c × All Small (entries_from l.img l.c) × (max l.last.0 (least_end (staying l.gone (entries_from l.img l.c))) ≡ least_end (staying l.gone (entries_from l.img l.initial.c))) × SumsFrom l.img l.sums l.c
 
-abbrev pub decreases-loop-last : goal.decreases-loop-last
-decreases-loop-last l = l.c.left
+abbrev pub decreases-loop-e : goal.decreases-loop-e
+decreases-loop-e l = l.c.left
