@@ -1,5 +1,5 @@
 -- A search, taken an entry further: what it finds, and what it looks at on the way.
-use Rattle.std.specs.Prelude.{ℕ, ◌+◌, ◌*◌, ◌^◌, ◌≤◌, ◌<◌, ◌≡◌, Bool, List, [], drop}
+use Rattle.std.specs.Prelude.{ℕ, ◌+◌, ◌*◌, ◌^◌, ◌≤◌, ◌<◌, ◌≡◌, Bool, List, [], drop, Option, None, Some}
 use Rattle.std.proofs.Math.Path.{refl, sym}
 use Rattle.std.proofs.Common.{ap, ap₂, ◌∙◌, arith, zero-add, add-zero}
 use Rattle.std.proofs.Math.Bool.{true, false}
@@ -21,8 +21,6 @@ use Rattle.index.specs.Steps.{Walks, entries_from, Arrives, Onward, behind-onwar
 use Rattle.paths.specs.declared.Sought.{Sought}
 use Rattle.paths.specs.declared.Way.{Way}
 use Rattle.paths.specs.declared.Way.TheVariants.{On, At}
-use Rattle.paths.specs.declared.Hit.{Hit}
-use Rattle.paths.specs.declared.Hit.TheVariants.{Nothing as no_hit, Entry as hit_at}
 use Rattle.paths.specs.View.{sought_kind, passes, compares, OfRuns, name_of, spot_looked, LookedFrom, Hits, hits-none, hits-read, HitOf, no-hit-of, some-hit-of}
 use Rattle.paths.specs.Entries.{only_end, only-stop, only_next, compared-run, sought-entry, unsought}
 
@@ -52,7 +50,7 @@ module _ (s : List ℕ) (what : Sought) (p : List ℕ) (c : Cursor) where
   looked_from g d = search_looked s g (compares what) (passes what p) p (entries_from s d)
 
   -- what it comes to
-  abbrev pub Comes : Hit → ℕ → Type 0
+  abbrev pub Comes : Option (Head × Cursor) → ℕ → Type 0
   Comes r n = Hits s (passes what p) (entries_from s c) r × (LookedFrom s c (compares what) (passes what p) p n × HitOf c r)
 
   pub record Going (d : Cursor) (n : ℕ) : Type 0 where
@@ -72,7 +70,7 @@ module _ (s : List ℕ) (what : Sought) (p : List ℕ) (c : Cursor) where
   }
 
   module _ (d : Cursor) (n : ℕ) (going : Going d n) where
-    pub going_end : entries_from s d ≡ [] → Comes no_hit n
+    pub going_end : entries_from s d ≡ [] → Comes None n
     going_end z = (
       hits-none _ _ _ (sym going.chosen ∙ only_end _ _ z),
       (λ g o e. sym (add-zero n) ∙ ap (λ (k : ℕ). n + k) (sym (looked-end s g _ _ p _ z)) ∙ going.count g o e, no-hit-of c),
@@ -96,7 +94,7 @@ module _ (s : List ℕ) (what : Sought) (p : List ℕ) (c : Cursor) where
       pub going-room : n + m < 2 ^ 64
       going-room = omega (arith, going.few, tried, spot-few s e what p ed of step.spot)
 
-      pub going-found : passes what p (spot_view s e) ≡ true → (h : Head) → head_view s h ≡ head_of (edition_view e.edition) e.slot.0 (drop e.at.0 s) → h.edition ≡ e.edition → h.at.0 ≡ e.at.0 → Comes (hit_at h d') (n + m)
+      pub going-found : passes what p (spot_view s e) ≡ true → (h : Head) → head_view s h ≡ head_of (edition_view e.edition) e.slot.0 (drop e.at.0 s) → h.edition ≡ e.edition → h.at.0 ≡ e.at.0 → Comes (Some (h, d')) (n + m)
       going-found t h view own place =
           let same : spot_view s e ≡ head_view s h = step.view ∙ sym view in (
             hits-read _ _ _ (spot_view s e) h d' (sym going.chosen ∙ only-stop _ _ _ _ step.entries t) same (head-spot s e h same own place step.spot) step.walks (arrives-before s d d' e step),
@@ -180,7 +178,7 @@ over-over s what p d n d' n' d'' n'' a b = record {
 -- to the entry at a spot, which passes: whatever the search had come to before, with the numbers read it comes to that entry
 pub record Strikes (s : List ℕ) (what : Sought) (p : List ℕ) (d : Cursor) (n : ℕ) (e : Spot) (rest : Cursor) (n' : ℕ) : Type 0 where
   pub spot : SpotIn s e
-  pub comes : (c : Cursor) → Going s what p c d n → (h : Head) → head_view s h ≡ head_of (edition_view e.edition) e.slot.0 (drop e.at.0 s) → h.edition ≡ e.edition → h.at.0 ≡ e.at.0 → Comes s what p c (hit_at h rest) n'
+  pub comes : (c : Cursor) → Going s what p c d n → (h : Head) → head_view s h ≡ head_of (edition_view e.edition) e.slot.0 (drop e.at.0 s) → h.edition ≡ e.edition → h.at.0 ≡ e.at.0 → Comes s what p c (Some (h, rest)) n'
 
 unfoldable pub Goes : List ℕ → Sought → List ℕ → Cursor → ℕ → Way → Type 0
 Goes s what p d n (On d' n') = Over s what p d n d' n'

@@ -1,10 +1,11 @@
 -- The code's answers in the rules' words.
-use Rattle.std.specs.Prelude.{ℕ, ◌<◌, ◌≡◌, refl, Bool, true, false, ◌&&◌, ◌||◌, List, [], ◌∷◌, ◌⊎◌, drop, eqb}
+use Rattle.std.specs.Prelude.{ℕ, ◌<◌, ◌≡◌, refl, Bool, true, false, ◌&&◌, ◌||◌, List, [], ◌∷◌, ◌⊎◌, drop, eqb, Option as Maybe, None, Some, option_map, is_some as is_found}
 use Rattle.std.proofs.Math.Path.{sym, ap}
 use Rattle.std.proofs.Common.{◌∙◌, arith}
 use Rattle.std.proofs.Math.Option.{Option, none, some}
-use Rattle.rules.specs.Lists.{pick, is_some, only, first, eq_list}
+use Rattle.rules.specs.Lists.{pick, any, is_some, only, first, eq_list}
 use Rattle.rules.specs.Lists.Laws.{first-chosen, first-unchosen}
+use Rattle.rules.specs.Paths.Laws.{any-first}
 use Rattle.rules.specs.Editions.{Edition}
 use Rattle.rules.specs.SuperBlock.{Geometry}
 use Rattle.rules.specs.Names.{slash, is_below}
@@ -15,13 +16,9 @@ use Rattle.editions.specs.declared.Edition.{Edition as Held}
 use Rattle.slots.specs.declared.Head.{Head}
 use Rattle.slots.specs.declared.Spot.{Spot}
 use Rattle.slots.specs.View.{head_view, spot_view, HeadIn}
-use Rattle.paths.specs.declared.Search.{Search}
-use Rattle.paths.specs.declared.Search.TheVariants.{Nothing, Entry as found}
 use Rattle.index.specs.declared.Cursor.{Cursor}
 use Rattle.index.specs.View.{Behind}
 use Rattle.index.specs.Steps.{Walks, entries_from}
-use Rattle.paths.specs.declared.Hit.{Hit}
-use Rattle.paths.specs.declared.Hit.TheVariants.{Nothing as no_hit, Entry as hit_at}
 use Rattle.paths.specs.declared.Sought.{Sought}
 
 -- ---- what is looked for
@@ -62,51 +59,56 @@ abbrev pub LookedFrom : List ℕ → Cursor → (Entry → Bool) → (Entry → 
 LookedFrom s c sought passing p n = (g : Geometry) → edition_view c.edition ≡ g.edition → c.at.0 ≡ slot_at s g c.slot.0 → n ≡ search_looked s g sought passing p (entries_from s c)
 
 -- ---- what was found
-unfoldable pub search_view : List ℕ → Search → Option Entry
-search_view s Nothing = none
-search_view s (found h) = some (head_view s h)
+unfoldable pub search_view : List ℕ → Maybe Head → Option Entry
+search_view s None = none
+search_view s (Some h) = some (head_view s h)
 
 -- an entry that was found lies in the image
-unfoldable pub Lies : List ℕ → Search → Type 0
-Lies s Nothing = Unit {0}
-Lies s (found h) = HeadIn s h
+unfoldable pub Lies : List ℕ → Maybe Head → Type 0
+Lies s None = Unit {0}
+Lies s (Some h) = HeadIn s h
 
-pub record Searched (s : List ℕ) (o : Option Entry) (r : Search) : Type 0 where
+pub record Searched (s : List ℕ) (o : Option Entry) (r : Maybe Head) : Type 0 where
   pub view : search_view s r ≡ o
   pub lies : Lies s r
 
-pub searched-none : (s : List ℕ) (o : Option Entry) → o ≡ none → Searched s o Nothing
+pub searched-none : (s : List ℕ) (o : Option Entry) → o ≡ none → Searched s o None
 unfolding search_view Lies
 searched-none s o e = record { view = sym e; lies = tt }
 
-pub searched-some : (s : List ℕ) (o : Option Entry) (h : Head) → o ≡ some (head_view s h) → HeadIn s h → Searched s o (found h)
+pub searched-some : (s : List ℕ) (o : Option Entry) (h : Head) → o ≡ some (head_view s h) → HeadIn s h → Searched s o (Some h)
 unfolding search_view Lies
 searched-some s o h e i = record { view = sym e; lies = i }
 
 -- what an answer says, by what it is
-module _ (s : List ℕ) (o : Option Entry) (r : Search) (told : Searched s o r) where
-  pub searched-nothing : r ≡ Nothing → o ≡ none
+module _ (s : List ℕ) (o : Option Entry) (r : Maybe Head) (told : Searched s o r) where
+  pub searched-nothing : r ≡ None → o ≡ none
   unfolding search_view
   searched-nothing e = sym told.view ∙ ap (search_view s) e
 
-  pub searched-entry : (h : Head) → r ≡ found h → (o ≡ some (head_view s h)) × HeadIn s h
+  pub searched-entry : (h : Head) → r ≡ Some h → (o ≡ some (head_view s h)) × HeadIn s h
   unfolding search_view Lies
   searched-entry h e = (sym told.view ∙ ap (search_view s) e, rw e at told.lies)
 
--- and is of the edition that the search goes by
-unfoldable pub FoundOf : Held → Search → Type 0
-FoundOf ed Nothing = Unit {0}
-FoundOf ed (found h) = h.edition ≡ ed
+pub searched-found : (s : List ℕ) (o : Option Entry) (r : Maybe Head) → Searched s o r → is_found r ≡ is_some o
+unfolding search_view is_some
+searched-found s o None told = ap is_some told.view
+searched-found s o (Some h) told = ap is_some told.view
 
-pub none_of : (ed : Held) → FoundOf ed Nothing
+-- and is of the edition that the search goes by
+unfoldable pub FoundOf : Held → Maybe Head → Type 0
+FoundOf ed None = Unit {0}
+FoundOf ed (Some h) = h.edition ≡ ed
+
+pub none_of : (ed : Held) → FoundOf ed None
 unfolding FoundOf
 none_of ed = tt
 
-pub some_of : (ed : Held) (h : Head) → h.edition ≡ ed → FoundOf ed (found h)
+pub some_of : (ed : Held) (h : Head) → h.edition ≡ ed → FoundOf ed (Some h)
 unfolding FoundOf
 some_of ed h e = e
 
-pub found_of : (ed : Held) (r : Search) → FoundOf ed r → (h : Head) → r ≡ found h → h.edition ≡ ed
+pub found_of : (ed : Held) (r : Maybe Head) → FoundOf ed r → (h : Head) → r ≡ Some h → h.edition ≡ ed
 unfolding FoundOf
 found_of ed r told h e = rw e at told
 
@@ -117,21 +119,21 @@ pub record HitAt (s : List ℕ) (p : Entry → Bool) (es : List Entry) (h : Head
   pub walks : Walks s rest
   pub passed : h.slot.0 < rest.slot.0
 
-unfoldable pub Hits : List ℕ → (Entry → Bool) → List Entry → Hit → Type 0
-Hits s p es no_hit = only p es ≡ []
-Hits s p es (hit_at h rest) = HitAt s p es h rest
+unfoldable pub Hits : List ℕ → (Entry → Bool) → List Entry → Maybe (Head × Cursor) → Type 0
+Hits s p es None = only p es ≡ []
+Hits s p es (Some (h, rest)) = HitAt s p es h rest
 
 module _ (s : List ℕ) (p : Entry → Bool) (es : List Entry) where
-  pub hits-none : only p es ≡ [] → Hits s p es no_hit
+  pub hits-none : only p es ≡ [] → Hits s p es None
   unfolding Hits
   hits-none e = e
 
-  pub hits-some : (h : Head) (rest : Cursor) → HitAt s p es h rest → Hits s p es (hit_at h rest)
+  pub hits-some : (h : Head) (rest : Cursor) → HitAt s p es h rest → Hits s p es (Some (h, rest))
   unfolding Hits
   hits-some h rest k = k
 
   -- an entry by where it stands, and its numbers as they were read
-  pub hits-read : (x : Entry) (h : Head) (rest : Cursor) → only p es ≡ x ∷ only p (entries_from s rest) → x ≡ head_view s h → HeadIn s h → Walks s rest → x.slot < rest.slot.0 → Hits s p es (hit_at h rest)
+  pub hits-read : (x : Entry) (h : Head) (rest : Cursor) → only p es ≡ x ∷ only p (entries_from s rest) → x ≡ head_view s h → HeadIn s h → Walks s rest → x.slot < rest.slot.0 → Hits s p es (Some (h, rest))
   unfolding head_view
   hits-read x h rest e same i w l = hits-some h rest (record {
     chosen = e ∙ ap (λ y. y ∷ only p (entries_from s rest)) same;
@@ -140,15 +142,15 @@ module _ (s : List ℕ) (p : Entry → Bool) (es : List Entry) where
     passed = omega (arith, l, ap (λ (y : Entry). y.slot) same);
   })
 
-  module _ (r : Hit) (told : Hits s p es r) where
-    pub hit-none : r ≡ no_hit → only p es ≡ []
+  module _ (r : Maybe (Head × Cursor)) (told : Hits s p es r) where
+    pub hit-none : r ≡ None → only p es ≡ []
     unfolding Hits
     hit-none e = rw e at told
 
-    pub hit-nothing : r ≡ no_hit → first p es ≡ none
+    pub hit-nothing : r ≡ None → first p es ≡ none
     hit-nothing e = first-unchosen p es (hit-none e)
 
-    pub hit-entry : (h : Head) (rest : Cursor) → r ≡ hit_at h rest → HitAt s p es h rest
+    pub hit-entry : (h : Head) (rest : Cursor) → r ≡ Some (h, rest) → HitAt s p es h rest
     unfolding Hits
     hit-entry h rest e = rw e at told
 
@@ -156,30 +158,37 @@ module _ (s : List ℕ) (p : Entry → Bool) (es : List Entry) where
   hit-first h rest k = first-chosen p es (head_view s h) (only p (entries_from s rest)) k.chosen
 
 -- it is of the walk's edition, and the walk goes on behind it
-unfoldable pub HitOf : Cursor → Hit → Type 0
-HitOf c no_hit = Unit {0}
-HitOf c (hit_at h rest) = (h.edition ≡ c.edition) × Behind c rest
+unfoldable pub HitOf : Cursor → Maybe (Head × Cursor) → Type 0
+HitOf c None = Unit {0}
+HitOf c (Some (h, rest)) = (h.edition ≡ c.edition) × Behind c rest
 
-pub no-hit-of : (c : Cursor) → HitOf c no_hit
+pub no-hit-of : (c : Cursor) → HitOf c None
 unfolding HitOf
 no-hit-of c = tt
 
-pub some-hit-of : (c : Cursor) (h : Head) (rest : Cursor) → h.edition ≡ c.edition → Behind c rest → HitOf c (hit_at h rest)
+pub some-hit-of : (c : Cursor) (h : Head) (rest : Cursor) → h.edition ≡ c.edition → Behind c rest → HitOf c (Some (h, rest))
 unfolding HitOf
 some-hit-of c h rest e b = (e, b)
 
-pub hit-of : (c : Cursor) (r : Hit) → HitOf c r → (h : Head) (rest : Cursor) → r ≡ hit_at h rest → (h.edition ≡ c.edition) × Behind c rest
+pub hit-of : (c : Cursor) (r : Maybe (Head × Cursor)) → HitOf c r → (h : Head) (rest : Cursor) → r ≡ Some (h, rest) → (h.edition ≡ c.edition) × Behind c rest
 unfolding HitOf
 hit-of c r told h rest e = rw e at told
 
-unfoldable pub is_found : Search → Bool
-is_found Nothing = false
-is_found (found h) = true
+-- ---- the entry of a hit is what a search finds
+abbrev pub entry_of : Maybe (Head × Cursor) → Maybe Head
+entry_of r = option_map (λ x. x.0) r
 
-found-view : (s : List ℕ) (r : Search) → is_found r ≡ is_some (search_view s r)
-unfolding is_found search_view is_some
-found-view s Nothing = refl
-found-view s (found h) = refl
+pub hit-searched : (s : List ℕ) (p : Entry → Bool) (es : List Entry) (r : Maybe (Head × Cursor)) → Hits s p es r → Searched s (first p es) (entry_of r)
+hit-searched s p es None told = searched-none _ _ (hit-nothing s p es None told refl)
+hit-searched s p es (Some (h, rest)) told =
+    let k = hit-entry s p es (Some (h, rest)) told h rest refl in
+    searched-some _ _ _ (hit-first s p es h rest k) k.head
 
-pub searched-found : (s : List ℕ) (o : Option Entry) (r : Search) → Searched s o r → is_found r ≡ is_some o
-searched-found s o r told = found-view s r ∙ ap is_some told.view
+pub hit-any : (s : List ℕ) (p : Entry → Bool) (es : List Entry) (r : Maybe (Head × Cursor)) → Hits s p es r → is_found r ≡ any p es
+hit-any s p es None told = searched-found s (first p es) None (hit-searched s p es None told) ∙ sym (any-first p es)
+hit-any s p es (Some m) told = searched-found s (first p es) (Some m.0) (hit-searched s p es (Some m) told) ∙ sym (any-first p es)
+
+pub found-of-hit : (c : Cursor) (r : Maybe (Head × Cursor)) → HitOf c r → FoundOf c.edition (entry_of r)
+unfolding HitOf FoundOf
+found-of-hit c None told = tt
+found-of-hit c (Some m) told = told.0

@@ -13,26 +13,12 @@ ghost use Rattle.slots.specs.View.{spot_view, SpotIn};
 ghost use Rattle.index.specs.View.{SumsFrom};
 ghost use Rattle.index.specs.Steps.{Walks, entries_from};
 ghost use Rattle.paths.specs.Searching.{FewLooked, Goes, Ends};
-ghost use Rattle.paths.specs.View.{Hits, HitOf, Searched, FoundOf, is_found, passes, sought_kind, compares, OfRuns, name_of, spot_looked, LookedFrom};
+ghost use Rattle.paths.specs.View.{Hits, HitOf, Searched, FoundOf, passes, sought_kind, compares, OfRuns, name_of, spot_looked, LookedFrom};
 
 use comparing::{Compared, apart, compare};
-use index::{Cursor, Stop, further, next_spot, single};
+use index::{Cursor, further, next_spot, single};
 use slots::{Head, Spot};
 use units::Slot;
-
-// The entry that a search found.
-#[derive(Clone, Copy)]
-pub enum Search {
-    Nothing,
-    Entry(Head),
-}
-
-// The same, and where the walk goes on behind the entry.
-#[derive(Clone, Copy)]
-pub enum Hit {
-    Nothing,
-    Entry(Head, Cursor),
-}
 
 // ---- one entry
 
@@ -165,16 +151,16 @@ fn pass_over(img: &[u8], sums: &[u8], from: Cursor, what: Sought, path: &[u8]) -
     }
 }
 
-// What a search comes to, and how many bytes of the names on its way it looked at.
+// What a search comes to, the entry and the cursor behind it, and how many bytes of the names on its way it looked at.
 #[derive(Clone, Copy)]
 struct Met {
-    hit: Hit,
+    hit: Option<(Head, Cursor)>,
     looked: usize,
 }
 
 #[derive(Clone, Copy)]
 pub struct Found {
-    pub entry: Search,
+    pub entry: Option<Head>,
     pub looked: usize,
 }
 
@@ -186,14 +172,11 @@ fn next_hit(img: &[u8], sums: &[u8], from: Cursor, what: Sought, path: &[u8]) ->
     ensures edition { HitOf from result.hit }
 {
     match pass_over(img, sums, from, what, path) {
-        Way::On(_, looked) => Met {
-            hit: Hit::Nothing,
-            looked,
-        },
+        Way::On(_, looked) => Met { hit: None, looked },
         Way::At(e, rest, looked) => {
             let h = slots::head_at(img, e.edition, e.at, e.slot);
             Met {
-                hit: Hit::Entry(h, rest),
+                hit: Some((h, rest)),
                 looked,
             }
         }
@@ -208,25 +191,9 @@ fn seek(img: &[u8], sums: &[u8], from: Cursor, what: Sought, path: &[u8]) -> Fou
     ensures edition { FoundOf from.edition result.entry }
 {
     let met = next_hit(img, sums, from, what, path);
-    let hit = met.hit;
-    match hit {
-        Hit::Nothing => Found {
-            entry: Search::Nothing,
-            looked: met.looked,
-        },
-        Hit::Entry(h, _) => Found {
-            entry: Search::Entry(h),
-            looked: met.looked,
-        },
-    }
-}
-
-pub fn is_found(s: Search) -> bool
-    ensures { result ≡ is_found s }
-{
-    match s {
-        Search::Nothing => false,
-        Search::Entry(_) => true,
+    Found {
+        entry: met.hit.map(|(h, _)| h),
+        looked: met.looked,
     }
 }
 
@@ -235,8 +202,7 @@ fn any_passes(img: &[u8], sums: &[u8], from: Cursor, what: Sought, path: &[u8]) 
     requires { Walks img.now from × OfRuns (edition_view from.edition) what × SumsFrom img.now sums.now from }
     ensures { result ≡ any (passes what path.now) (entries_from img.now from) }
 {
-    let found = seek(img, sums, from, what, path).entry;
-    is_found(found)
+    next_hit(img, sums, from, what, path).hit.is_some()
 }
 
 // The live entry of the path, and how many bytes of names were looked at.
@@ -250,7 +216,7 @@ pub fn find(img: &[u8], sums: &[u8], from: Cursor, path: &[u8]) -> Found
 }
 
 // The live entry of the path.
-pub fn lookup(img: &[u8], sums: &[u8], from: Cursor, path: &[u8]) -> Search
+pub fn lookup(img: &[u8], sums: &[u8], from: Cursor, path: &[u8]) -> Option<Head>
     requires { Walks img.now from × SumsFrom img.now sums.now from }
     ensures { Searched img.now (lookup path.now (entries_from img.now from)) result }
 {
@@ -258,14 +224,14 @@ pub fn lookup(img: &[u8], sums: &[u8], from: Cursor, path: &[u8]) -> Search
 }
 
 // The first deleted entry of the path. Where none are kept there is none.
-pub fn first_deleted(img: &[u8], sums: &[u8], from: Cursor, path: &[u8]) -> Hit
+pub fn first_deleted(img: &[u8], sums: &[u8], from: Cursor, path: &[u8]) -> Option<(Head, Cursor)>
     requires { Walks img.now from × SumsFrom img.now sums.now from }
     ensures hits { Hits img.now (deleted_at path.now) (entries_from img.now from) result }
     ensures place { HitOf from result }
 {
     let ed = from.edition;
     if !ed.keeps_deleted() {
-        return Hit::Nothing;
+        return None;
     }
     next_hit(img, sums, from, DELETED, path).hit
 }
@@ -275,11 +241,7 @@ pub fn any_deleted(img: &[u8], sums: &[u8], from: Cursor, path: &[u8]) -> bool
     requires { Walks img.now from × SumsFrom img.now sums.now from }
     ensures { result ≡ any (deleted_at path.now) (entries_from img.now from) }
 {
-    let ed = from.edition;
-    if !ed.keeps_deleted() {
-        return false;
-    }
-    any_passes(img, sums, from, DELETED, path)
+    first_deleted(img, sums, from, path).is_some()
 }
 
 // Whether the entry is live and starts at this slot or behind it.
@@ -290,24 +252,20 @@ fn is_from(e: Spot, slot: Slot) -> bool
 }
 
 // The live entry with the lowest first slot not below this one, and where the walk goes on behind it.
-pub fn next_live(img: &[u8], sums: &[u8], from: Cursor, slot: Slot) -> Hit
+pub fn next_live(img: &[u8], sums: &[u8], from: Cursor, slot: Slot) -> Option<(Head, Cursor)>
     requires { Walks img.now from × SumsFrom img.now sums.now from }
     ensures hits { Hits img.now (live_from slot.0) (entries_from img.now from) result }
     ensures place { HitOf from result }
 {
-    let mut at = from;
-    loop {
-        match next_spot(img, sums, at) {
-            Stop::End => return Hit::Nothing,
-            Stop::At(e, rest) => {
-                if is_from(e, slot) {
-                    let h = slots::head_at(img, e.edition, e.at, e.slot);
-                    return Hit::Entry(h, rest);
-                }
-                at = rest;
-            }
+    let mut c = from;
+    while let Some(next) = next_spot(img, sums, c) {
+        let e = next.here;
+        if is_from(e, slot) {
+            return Some((slots::head_at(img, e.edition, e.at, e.slot), next.rest));
         }
+        c = next.rest;
     }
+    None
 }
 
 // Whether a live directory has this path.

@@ -5,8 +5,8 @@ use Rattle.index.specs.View.{SumsFrom, Behind}
 use Rattle.index.specs.Steps.{Walks, entries_from}
 use Rattle.paths.proofs.next_live.Given as goal
 
-abbrev pub invariant-loop-e : goal.invariant-loop-e
-invariant-loop-e l = Walks l.img l.at × (only (live_from l.slot.0) (entries_from l.img l.at) ≡ only (live_from l.slot.0) (entries_from l.img l.initial.at)) × Behind l.initial.at l.at × SumsFrom l.img l.sums l.at
+abbrev pub invariant-loop-next : goal.invariant-loop-next
+invariant-loop-next l = Walks l.img l.c × (only (live_from l.slot.0) (entries_from l.img l.c) ≡ only (live_from l.slot.0) (entries_from l.img l.initial.c)) × Behind l.initial.c l.c × SumsFrom l.img l.sums l.c
 
-abbrev pub decreases-loop-e : goal.decreases-loop-e
-decreases-loop-e l = l.at.left
+abbrev pub decreases-loop-next : goal.decreases-loop-next
+decreases-loop-next l = l.c.left

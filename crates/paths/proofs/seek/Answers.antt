@@ -1,21 +1,15 @@
-use Rattle.paths.specs.View.{searched-none, searched-some, none_of, some_of, hit-nothing, hit-entry, hit-first, hit-of}
+use Rattle.std.specs.Prelude.{◌≡◌, option_map}
+use Rattle.std.proofs.Common.{rules}
+use Rattle.paths.specs.View.{hit-searched, found-of-hit}
 use Rattle.paths.proofs.seek.Goals as goal
+use Rattle.paths.proofs.seek.Goals.{After-map}
 
-pub returns-in-Nothing : goal.returns-in-Nothing
-returns-in-Nothing c =
-    let n = c.next_hit-met.ensures in
-    record {
-      searched = searched-none _ _ (hit-nothing _ _ _ _ n.hits c.in-Nothing.is);
-      counted = n.counted;
-      edition = none_of _;
-    }
+-- the closure takes the entry
+mapped : (c : After-map) → c.map.result ≡ option_map (λ x. x.0) c.next_hit-met.result.hit
+mapped c = search rules
 
-pub returns-in-Entry : goal.returns-in-Entry
-returns-in-Entry c =
-    let n = c.next_hit-met.ensures in
-    let k = hit-entry _ _ _ _ n.hits _ _ c.in-Entry.is in
-    record {
-      searched = searched-some _ _ _ (hit-first _ _ _ _ _ k) k.head;
-      counted = n.counted;
-      edition = some_of _ _ (hit-of _ _ n.edition _ _ c.in-Entry.is).0;
-    }
+pub returns-clause-searched : goal.returns-clause-searched
+returns-clause-searched c = rw (mapped (goal.at.returns-clause-searched c).After-map) (hit-searched _ _ _ _ c.next_hit-met.ensures.hits)
+
+pub returns-clause-edition : goal.returns-clause-edition
+returns-clause-edition c = rw (mapped (goal.at.returns-clause-edition c).After-map) (found-of-hit _ _ c.next_hit-met.ensures.edition)
