@@ -1,5 +1,5 @@
 -- What a change of type comes to before it is written, and that an entry which was found lies in the image.
-use Rattle.std.specs.Prelude.{ℕ, ◌+◌, ◌*◌, ◌≤◌, ◌≡◌, Bool, length, ℤ}
+use Rattle.std.specs.Prelude.{ℕ, ◌+◌, ◌*◌, ◌≤◌, ◌≡◌, Bool, length, ℤ, Result, Ok, Err}
 use Rattle.std.proofs.Common.{arith, ◌∙◌}
 use Rattle.std.proofs.Math.Path.{sym, ap}
 use mathlib.Core.List.{List}
@@ -25,23 +25,24 @@ use Rattle.slots.specs.declared.Head.{Head}
 use Rattle.slots.specs.View.{head_view}
 use Rattle.judging.specs.View.{Opened, volume_of, opened-super, opened-sound}
 use Rattle.retyping.specs.declared.Retyping.{Retyping}
-use Rattle.retyping.specs.declared.Retyping.TheVariants.{Refused, Retype, Clear}
+use Rattle.retyping.specs.declared.Retyping.TheVariants.{Retype, Clear}
+use Rattle.refusals.specs.declared.Refusal.{Refusal}
+use Rattle.refusals.specs.View.{number_of}
 
 -- the image that the call begins with
 abbrev pub tidy_of : List ℕ → Held → List ℕ
 tidy_of s g = tidy_image s (volume_of s (geometry_view g))
 
 -- ---- what was planned for a call, with any stamp: its refusal, or the entry that it changes
-unfoldable pub RetypePlanned : List ℕ → (ℤ → Written) → Retyping → Type 0
-RetypePlanned s call (Refused n) = (z : ℤ) → call z ≡ refused_write s n
-RetypePlanned s call (Retype g at t) =
+unfoldable pub RetypePlanned : List ℕ → (ℤ → Written) → Result Retyping Refusal → Type 0
+RetypePlanned s call (Err e) = (z : ℤ) → call z ≡ refused_write s (number_of e)
+RetypePlanned s call (Ok (Retype g at t)) =
     Opened s g × (at.0 + slot_bytes ≤ length s) × ((z : ℤ) → call z ≡ wrote (retyped (edition_view g.edition) (tidy_of s g) at.0 t z))
-RetypePlanned s call (Clear g at n) =
+RetypePlanned s call (Ok (Clear g at n)) =
     Opened s g × (at.0 + slot_bytes * n ≤ length s) × ((z : ℤ) → call z ≡ wrote (splice (tidy_of s g) at.0 (unused_bytes (edition_view g.edition) n)))
 
 -- the image opens, and what is written lies in it
 unfoldable pub Fits : List ℕ → Retyping → Type 0
-Fits s (Refused n) = Unit {0}
 Fits s (Retype g at t) = Opened s g × (at.0 + slot_bytes ≤ length s)
 Fits s (Clear g at n) = Opened s g × (at.0 + slot_bytes * n ≤ length s)
 
@@ -55,9 +56,8 @@ module _ (s : List ℕ) (r : Retyping) (f : Fits s r) where
   fits-clear g at n e = rw e at f
 
 module _ (s : List ℕ) (call : ℤ → Written) where
-  pub planned-fits : (r : Retyping) → RetypePlanned s call r → Fits s r
+  pub planned-fits : (r : Retyping) → RetypePlanned s call (Ok r) → Fits s r
   unfolding RetypePlanned Fits
-  planned-fits (Refused n) p = tt
   planned-fits (Retype g at t) p = (p.0, p.1)
   planned-fits (Clear g at n) p = (p.0, p.1)
 
@@ -75,27 +75,27 @@ module _ (s : List ℕ) (call : ℤ → Written) where
 
     pub planned-retype : (t : ℕ) → slot_at s (geometry_view g) k + slot_bytes ≤ length s
         → ((z : ℤ) → call z ≡ wrote (retyped (edition_view g.edition) (tidy_of s g) (slot_at (tidy_of s g) (geometry_view g) k) t z))
-        → RetypePlanned s call (Retype g at t)
+        → RetypePlanned s call (Ok (Retype g at t))
     unfolding RetypePlanned
     planned-retype t room c = (o, rw place room, λ z. rw (← place-tidied) (c z))
 
     pub planned-clear : (n : ℕ) → slot_at s (geometry_view g) k + slot_bytes * n ≤ length s
         → ((z : ℤ) → call z ≡ wrote (splice (tidy_of s g) (slot_at (tidy_of s g) (geometry_view g) k) (unused_bytes (edition_view g.edition) n)))
-        → RetypePlanned s call (Clear g at n)
+        → RetypePlanned s call (Ok (Clear g at n))
     unfolding RetypePlanned
     planned-clear n room c = (o, rw place room, λ z. rw (← place-tidied) (c z))
 
-  module _ (r : Retyping) (p : RetypePlanned s call r) (z : ℤ) where
-    pub planned-refused : (n : ℕ) → r ≡ Refused n → refused_write s n ≡ call z
+  module _ (r : Result Retyping Refusal) (p : RetypePlanned s call r) (z : ℤ) where
+    pub planned-refused : (x : Refusal) → r ≡ Err x → refused_write s (number_of x) ≡ call z
     unfolding RetypePlanned
-    planned-refused n e = sym ((rw e at p) z)
+    planned-refused x e = sym ((rw e at p) z)
 
-    pub planned-retyped : (g : Held) (at : Offset) (t : ℕ) → r ≡ Retype g at t → (x u : List ℕ) → x ≡ tidy_of s g
+    pub planned-retyped : (g : Held) (at : Offset) (t : ℕ) → r ≡ Ok (Retype g at t) → (x u : List ℕ) → x ≡ tidy_of s g
         → u ≡ retyped (edition_view g.edition) x at.0 t z → wrote u ≡ call z
     unfolding RetypePlanned
     planned-retyped g at t e x u d f = ap wrote (f ∙ ap (λ (y : List ℕ). retyped (edition_view g.edition) y at.0 t z) d) ∙ sym ((rw e at p).2 z)
 
-    pub planned-cleared : (g : Held) (at : Offset) (n : ℕ) → r ≡ Clear g at n → (x u : List ℕ) → x ≡ tidy_of s g
+    pub planned-cleared : (g : Held) (at : Offset) (n : ℕ) → r ≡ Ok (Clear g at n) → (x u : List ℕ) → x ≡ tidy_of s g
         → u ≡ splice x at.0 (unused_bytes (edition_view g.edition) n) → wrote u ≡ call z
     unfolding RetypePlanned
     planned-cleared g at n e x u d f = ap wrote (f ∙ ap (λ (y : List ℕ). splice y at.0 (unused_bytes (edition_view g.edition) n)) d) ∙ sym ((rw e at p).2 z)
