@@ -1,6 +1,6 @@
 -- What a delete comes to before it writes, and what the plain one then leaves.
 use Prim.Native.Nat.{ℕ, ◌+◌, ◌-◌, ◌*◌, ◌^◌, ◌≤◌, ◌<◌}
-use Rattle.std.specs.Prelude.{◌≡◌, ◌⊎◌, length, replicate, ℤ}
+use Rattle.std.specs.Prelude.{◌≡◌, ◌⊎◌, length, replicate, ℤ, Result, Ok, Err}
 use Rattle.std.proofs.Common.{sym, ◌∙◌, inl, inr}
 use Rattle.std.proofs.Math.Path.{ap}
 use mathlib.Core.List.{List, []}
@@ -30,12 +30,12 @@ use Rattle.geometry.specs.declared.Geometry.{Geometry as Held}
 use Rattle.geometry.specs.View.{geometry_view}
 use Rattle.slots.specs.declared.Head.{Head}
 use Rattle.slots.specs.View.{head_view, end-near}
+use Rattle.refusals.specs.declared.Refusal.{Refusal}
+use Rattle.refusals.specs.View.{number_of}
 use Rattle.free_runs.specs.declared.Gone.TheVariants.{At as gone_at}
 use Rattle.free_runs.specs.View.{is_gone}
 use Rattle.judging.specs.View.{Opened, volume_of}
 use Rattle.retyping.specs.Planned.{tidy_of, HasRoom}
-use Rattle.erasing.specs.declared.Deletable.{Deletable}
-use Rattle.erasing.specs.declared.Deletable.TheVariants.{Refused, Entry as found}
 use Rattle.erasing.specs.Least.{least_sizes, least-index}
 
 -- ---- the region of an entry whose head is held lies in an image of n bytes
@@ -57,16 +57,16 @@ pub record DeleteFound (s path : List ℕ) (g : Held) (h : Head) : Type 0 where
   pub lives : lookup path (entries (volume_of s (geometry_view g))) ≡ some (head_view s h)
   pub outcome : (write : Writes) → on_deletable s path write ≡ wrote (write (tidy_of s g) (volume_of s (geometry_view g)) (head_view s h))
 
-unfoldable pub DeletePlanned : List ℕ → List ℕ → Deletable → Type 0
-DeletePlanned s path (Refused n) = (write : Writes) → on_deletable s path write ≡ refused_write s n
-DeletePlanned s path (found g h) = DeleteFound s path g h
+unfoldable pub DeletePlanned : List ℕ → List ℕ → Result (Held × Head) Refusal → Type 0
+DeletePlanned s path (Err e) = (write : Writes) → on_deletable s path write ≡ refused_write s (number_of e)
+DeletePlanned s path (Ok p) = DeleteFound s path p.0 p.1
 
-module _ (s path : List ℕ) (r : Deletable) (p : DeletePlanned s path r) where
-  pub plan-refused : (n : ℕ) → r ≡ Refused n → (write : Writes) → on_deletable s path write ≡ refused_write s n
+module _ (s path : List ℕ) (r : Result (Held × Head) Refusal) (p : DeletePlanned s path r) where
+  pub plan-refused : (x : Refusal) → r ≡ Err x → (write : Writes) → on_deletable s path write ≡ refused_write s (number_of x)
   unfolding DeletePlanned
-  plan-refused n e = rw e at p
+  plan-refused x e = rw e at p
 
-  pub plan-entry : (g : Held) (h : Head) → r ≡ found g h → DeleteFound s path g h
+  pub plan-entry : (g : Held) (h : Head) → r ≡ Ok (g, h) → DeleteFound s path g h
   unfolding DeletePlanned
   plan-entry g h e = rw e at p
 
@@ -155,8 +155,8 @@ module _ (s : List ℕ) (g : Held) (o : Opened s g) (path : List ℕ) (h : Head)
   pub wiped-written : (u : List ℕ) (least : Geometry) (at : ℕ) → least ≡ least_sizes (gone_at h.slot) s (geometry_view g) z → at ≡ slot_at s (geometry_view g) h.slot.0
       → (x : List ℕ) → x ≡ t → u ≡ wiped_at x (geometry_view g) least e at → u ≡ wiped path z t (volume_of s (geometry_view g)) e
   unfolding wiped head_view
-  wiped-written u least at is place x IsTidy put =
+  wiped-written u least at is place x tidy put =
       let index = least-index (gone_at h.slot) s (geometry_view g) z k (sym sizes) in
       let image : List ℕ = put_sizes (region_cleared t (geometry_view g) e) k in
       let there : at ≡ slot_at image k h.slot.0 = omega (arith, place, slot-at s (geometry_view g) h.slot.0, slot-at image k h.slot.0, sized, index.1) in
-      put ∙ rw (is ∙ sizes, IsTidy, there)
+      put ∙ rw (is ∙ sizes, tidy, there)

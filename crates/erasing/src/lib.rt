@@ -20,6 +20,7 @@ ghost use Rattle.index.specs.Steps.{Walks, entries_from};
 ghost use Rattle.slots.specs.View.{head_view, HeadIn};
 ghost use Rattle.super_block.specs.View.{Judged as GoodSuper};
 ghost use Rattle.judging.specs.View.{Opened, volume_of};
+ghost use Rattle.refusals.specs.View.{answer_of};
 ghost use Rattle.retyping.specs.Planned.{tidy_of, HasRoom, RetypePlanned};
 ghost use Rattle.erasing.specs.Least.{least_sizes, SameIndex};
 ghost use Rattle.erasing.specs.Delete.{DeletePlanned, RegionHeld, wiped_at};
@@ -27,21 +28,13 @@ ghost use Rattle.erasing.specs.Reclaim.{head_cleared, least_written, reclaimed};
 
 use free_runs::Gone;
 use geometry::Geometry;
-use index::{Cursor, Next};
-use judging::Judged;
-use paths::Search;
+use index::Cursor;
+use refusals::Refusal;
 use retyping::Retyping;
 use slots::Head;
 use units::Offset;
 
 // ---- both deletes
-
-// What a delete comes to before it writes: a refusal, or, in a volume of this geometry, the path's live entry.
-#[derive(Clone, Copy)]
-pub enum Deletable {
-    Refused(u8),
-    Entry(Geometry, Head),
-}
 
 // Whether a live entry lies below the path whose live entry was found. Nothing lies below a file.
 fn any_below(img: &[u8], sums: &[u8], from: Cursor, path: &[u8], h: Head) -> bool
@@ -54,36 +47,31 @@ fn any_below(img: &[u8], sums: &[u8], from: Cursor, path: &[u8], h: Head) -> boo
     paths::any_below(img, sums, from, path)
 }
 
-fn plan_entry(img: &[u8], g: Geometry, path: &[u8]) -> Deletable
+// What a delete comes to before it writes: a refusal, or, in a volume of this geometry, the path's live entry.
+fn plan_entry(img: &[u8], g: Geometry, path: &[u8]) -> Result<(Geometry, Head), Refusal>
     requires { Opened img.now g }
     ensures { DeletePlanned img.now path.now result }
 {
     if !g.is_writable() {
-        return Deletable::Refused(9);
+        return Err(Refusal::Later);
     }
     if !names::path_good(path) {
-        return Deletable::Refused(10);
+        return Err(Refusal::Name);
     }
     let mut sums = [0u8; sums::ROOM];
     let from = super_block::first_slot(img, g, &mut sums);
-    match paths::lookup(img, &sums, from, path) {
-        Search::Nothing => Deletable::Refused(11),
-        Search::Entry(h) => {
-            if any_below(img, &sums, from, path, h) {
-                return Deletable::Refused(14);
-            }
-            Deletable::Entry(g, h)
-        }
+    let h = paths::lookup(img, &sums, from, path).ok_or(Refusal::Absent)?;
+    if any_below(img, &sums, from, path, h) {
+        return Err(Refusal::NotEmpty);
     }
+    Ok((g, h))
 }
 
-fn plan_delete(img: &[u8], path: &[u8]) -> Deletable
+fn plan_delete(img: &[u8], path: &[u8]) -> Result<(Geometry, Head), Refusal>
     ensures { DeletePlanned img.now path.now result }
 {
-    match judging::judge(img) {
-        Judged::Refused(n) => Deletable::Refused(n),
-        Judged::Good(g) => plan_entry(img, g, path),
-    }
+    let g = judging::judge(img)?;
+    plan_entry(img, g, path)
 }
 
 // ---- the one that keeps
@@ -91,7 +79,7 @@ fn plan_delete(img: &[u8], path: &[u8]) -> Deletable
 // The entry that was found: another type, or no entry any more where deleted ones are not kept.
 fn plan_found(img: &[u8], g: Geometry, h: Head) -> Retyping
     requires { Opened img.now g × HasRoom img.now g h }
-    ensures { (call : ℤ → Written) → ((z : ℤ) → call z ≡ wrote (deleted z (tidy_of img.now g) (volume_of img.now (geometry_view g)) (head_view img.now h))) → RetypePlanned img.now call result }
+    ensures { (call : ℤ → Written) → ((z : ℤ) → call z ≡ wrote (deleted z (tidy_of img.now g) (volume_of img.now (geometry_view g)) (head_view img.now h))) → RetypePlanned img.now call (Ok result) }
 {
     if g.edition.keeps_deleted() {
         return retyping::at_slot(img, g, h.slot, slots::deleted_kind(h.kind));
@@ -99,21 +87,20 @@ fn plan_found(img: &[u8], g: Geometry, h: Head) -> Retyping
     retyping::clear_at(img, g, h.slot, h.slots)
 }
 
-fn plan_keep(img: &[u8], path: &[u8]) -> Retyping
+fn plan_keep(img: &[u8], path: &[u8]) -> Result<Retyping, Refusal>
     ensures { RetypePlanned img.now (delete_keep_of img.now path.now) result }
 {
-    match plan_delete(img, path) {
-        Deletable::Refused(n) => Retyping::Refused(n),
-        Deletable::Entry(g, h) => plan_found(img, g, h),
-    }
+    let (g, h) = plan_delete(img, path)?;
+    Ok(plan_found(img, g, h))
 }
 
-// The refusal, 0 on success; `stamp` is the stamp's 64 bits.
-pub fn delete_keep(img: &mut [u8], path: &[u8], stamp: u64) -> u32
-    ensures { DeletesKeeping img.old path.now (signed_of stamp) result img.new }
+// `stamp` is the stamp's 64 bits.
+pub fn delete_keep(img: &mut [u8], path: &[u8], stamp: u64) -> Result<(), Refusal>
+    ensures { DeletesKeeping img.old path.now (signed_of stamp) (answer_of result) img.new }
 {
-    let plan = plan_keep(img, path);
-    retyping::put(img, plan, stamp)
+    let plan = plan_keep(img, path)?;
+    retyping::put(img, plan, stamp);
+    Ok(())
 }
 
 // ---- the sizes that are left
@@ -163,17 +150,13 @@ fn write_wiped(img: &mut [u8], g: Geometry, h: Head, stamp: u64)
     put_wiped(img, g, least, h, at);
 }
 
-// The refusal, 0 on success; `stamp` is the stamp's 64 bits.
-pub fn delete(img: &mut [u8], path: &[u8], stamp: u64) -> u32
-    ensures { Deletes img.old path.now (signed_of stamp) result img.new }
+// `stamp` is the stamp's 64 bits.
+pub fn delete(img: &mut [u8], path: &[u8], stamp: u64) -> Result<(), Refusal>
+    ensures { Deletes img.old path.now (signed_of stamp) (answer_of result) img.new }
 {
-    match plan_delete(img, path) {
-        Deletable::Refused(n) => n as u32,
-        Deletable::Entry(g, h) => {
-            write_wiped(img, g, h, stamp);
-            0
-        }
-    }
+    let (g, h) = plan_delete(img, path)?;
+    write_wiped(img, g, h, stamp);
+    Ok(())
 }
 
 // ---- reclaim
@@ -194,14 +177,9 @@ fn clear_deleted(img: &mut [u8], sums: &[u8], from: Cursor)
     ensures { (g : Sizes) → edition_view from.edition ≡ g.edition → from.at.0 ≡ slot_at img.old g from.slot.0 → img.new ≡ cleared is_deleted img.old g (entries_from img.old from) }
 {
     let mut c = from;
-    loop {
-        match index::next_entry(img, sums, c) {
-            Next::End => return,
-            Next::Found(h, rest) => {
-                clear_head(img, h);
-                c = rest;
-            }
-        }
+    while let Some((h, rest)) = index::next_entry(img, sums, c) {
+        clear_head(img, h);
+        c = rest;
     }
 }
 
@@ -236,18 +214,14 @@ fn write_reclaimed(img: &mut [u8], g: Geometry, stamp: u64)
     write_least(img, g, least);
 }
 
-// The refusal, 0 on success; `stamp` is the stamp's 64 bits.
-pub fn reclaim(img: &mut [u8], stamp: u64) -> u32
-    ensures { Reclaims img.old (signed_of stamp) result img.new }
+// `stamp` is the stamp's 64 bits.
+pub fn reclaim(img: &mut [u8], stamp: u64) -> Result<(), Refusal>
+    ensures { Reclaims img.old (signed_of stamp) (answer_of result) img.new }
 {
-    match judging::judge(img) {
-        Judged::Refused(n) => n as u32,
-        Judged::Good(g) => {
-            if !g.is_writable() {
-                return 9;
-            }
-            write_reclaimed(img, g, stamp);
-            0
-        }
+    let g = judging::judge(img)?;
+    if !g.is_writable() {
+        return Err(Refusal::Later);
     }
+    write_reclaimed(img, g, stamp);
+    Ok(())
 }
