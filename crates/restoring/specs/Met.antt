@@ -1,5 +1,5 @@
 -- A restore that has met the first deleted entry of its path: what the tests behind it come to.
-use Rattle.std.specs.Prelude.{ℕ, ◌≡◌, true, false, List, leb, length, ℤ}
+use Rattle.std.specs.Prelude.{ℕ, ◌≡◌, true, false, List, leb, length, ℤ, Option, Err, is_some as is_found}
 use Rattle.std.proofs.Common.{sym, ◌∙◌}
 use Rattle.std.proofs.Math.Path.{ap}
 use Rattle.std.proofs.Math.Bool.{not}
@@ -20,13 +20,12 @@ use Rattle.slots.specs.View.{head_view}
 use Rattle.index.specs.declared.Cursor.{Cursor}
 use Rattle.index.specs.View.{Inside, items_from}
 use Rattle.index.specs.Steps.{Walks, entries_from}
-use Rattle.paths.specs.declared.Search.{Search}
-use Rattle.paths.specs.View.{Searched, HitAt, is_found, hit-first}
+use Rattle.paths.specs.View.{Searched, HitAt, hit-first}
 use Rattle.judging.specs.View.{Opened, volume_of, opened-walks, opened-entries}
 use Rattle.judging.specs.Searches.{found-is, nearest-is}
 use Rattle.editions.specs.View.{edition_view}
 use Rattle.retyping.specs.Planned.{tidy_of, RetypePlanned}
-use Rattle.retyping.specs.declared.Retyping.TheVariants.{Refused}
+use Rattle.refusals.specs.declared.Refusal.TheVariants.{Live, Orphan, Repeated}
 
 pub record Met (s path : List ℕ) (g : Held) (from : Cursor) (h : Head) (rest : Cursor) : Type 0 where
   pub opened : Opened s g
@@ -57,21 +56,21 @@ module _ (s path : List ℕ) (g : Held) (from : Cursor) (h : Head) (rest : Curso
   near-is : nearest_live (entries v) (leading path) ≡ nearest_live (entries_from s from) (leading path)
   near-is = nearest-is s (geometry_view g) from m.items path
 
-  module _ (r : Search) (told : Searched s (lookup path (entries_from s from)) r) where
+  module _ (r : Option Head) (told : Searched s (lookup path (entries_from s from)) r) where
     live-is : is_some (lookup path (entries v)) ≡ is_found r
     live-is = found-is s (geometry_view g) from m.items path r told
 
-    pub met-live : is_found r ≡ true → RetypePlanned s (restore_of s path) (Refused 12)
+    pub met-live : is_found r ≡ true → RetypePlanned s (restore_of s path) (Err Live)
     unfolding RetypePlanned
     met-live l z = restore-live s v m.opened m.may path z m.named (head_view s h) met-first (live-is ∙ l)
 
     module _ (l : is_found r ≡ false) where
-      pub met-orphan : nearest_live (entries_from s from) (leading path) ≡ false → RetypePlanned s (restore_of s path) (Refused 13)
+      pub met-orphan : nearest_live (entries_from s from) (leading path) ≡ false → RetypePlanned s (restore_of s path) (Err Orphan)
       unfolding RetypePlanned
       met-orphan d z = restore-orphan s v m.opened m.may path z m.named (head_view s h) met-first (live-is ∙ l) (near-is ∙ d)
 
       module _ (d : nearest_live (entries_from s from) (leading path) ≡ true) where
-        pub met-several : any (deleted_at path) (entries_from s rest) ≡ true → RetypePlanned s (restore_of s path) (Refused 19)
+        pub met-several : any (deleted_at path) (entries_from s rest) ≡ true → RetypePlanned s (restore_of s path) (Err Repeated)
         unfolding RetypePlanned
         met-several n z =
             restore-several s v m.opened m.may path z m.named (head_view s h) met-first (live-is ∙ l) (near-is ∙ d) (alone ∙ ap not n)
