@@ -1,5 +1,5 @@
 -- What a plan says, by what it is.
-use Rattle.std.specs.Prelude.{ℕ, ◌≡◌, true, List, length, ℤ}
+use Rattle.std.specs.Prelude.{ℕ, ◌≡◌, true, List, length, ℤ, Result, Ok, Err}
 use Rattle.std.proofs.Common.{sym, ap, ◌∙◌}
 use Rattle.rules.specs.Index.{items_of, index_sound}
 use Rattle.rules.specs.Refusals.{Volume}
@@ -13,15 +13,15 @@ use Rattle.judging.specs.View.{Opened, volume_of, opened-super, opened-sound}
 use Rattle.placing.specs.Site.{site_view, NewIn}
 use Rattle.placing.specs.declared.Site.{Site}
 use Rattle.planning.specs.Planned.{Planned}
-use Rattle.planning.specs.declared.Plan.{Plan}
-use Rattle.planning.specs.declared.Plan.TheVariants.{Refused, At}
+use Rattle.refusals.specs.declared.Refusal.{Refusal}
+use Rattle.refusals.specs.View.{number_of}
 
-module _ (s : List ℕ) (new : New) (path : List ℕ) (stamp : ℤ) (r : Plan) (told : Planned s new path stamp r) where
-  pub plan-refused : (n : ℕ) → r ≡ Refused n → create_of s new path stamp ≡ refused_write s n
+module _ (s : List ℕ) (new : New) (path : List ℕ) (stamp : ℤ) (r : Result Site Refusal) (told : Planned s new path stamp r) where
+  pub plan-refused : (e : Refusal) → r ≡ Err e → create_of s new path stamp ≡ refused_write s (number_of e)
   unfolding Planned
-  plan-refused n e = rw e at told
+  plan-refused e i = rw i at told
 
-  module _ (p : Site) (e : r ≡ At p) where
+  module _ (p : Site) (e : r ≡ Ok p) where
     abbrev v : Volume
     v = volume_of s (geometry_view p.old)
 

@@ -5,20 +5,17 @@
 ghost use Rattle.rules.specs.Fields.{signed_of};
 ghost use Rattle.contracts.specs.Promises.{Creates};
 ghost use Rattle.placing.specs.Site.{new_of};
+ghost use Rattle.refusals.specs.View.{answer_of};
 
 use placing::New;
-use planning::Plan;
+use refusals::Refusal;
 
-// What is new, or the refusal.
-pub fn create(img: &mut [u8], new: New) -> u32
-    ensures { Creates img.old (new_of new.entry.made) new.entry.path.now (signed_of new.entry.stamp) result img.new }
+// What is new.
+pub fn create(img: &mut [u8], new: New) -> Result<(), Refusal>
+    ensures { Creates img.old (new_of new.entry.made) new.entry.path.now (signed_of new.entry.stamp) (answer_of result) img.new }
 {
-    match planning::plan_create(img, new) {
-        Plan::Refused(n) => n as u32,
-        Plan::At(p) => {
-            tidying::tidy(img, p.old);
-            placing::place(img, p, new);
-            0
-        }
-    }
+    let p = planning::plan_create(img, new)?;
+    tidying::tidy(img, p.old);
+    placing::place(img, p, new);
+    Ok(())
 }

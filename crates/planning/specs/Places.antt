@@ -23,11 +23,11 @@ use Rattle.laws.proofs.Images.Placing.{new_geometry}
 use Rattle.editions.specs.View.{edition_view}
 use Rattle.geometry.specs.View.{geometry_view, areas_fit}
 use Rattle.geometry.specs.declared.Geometry.{Geometry as Held}
+use Rattle.units.specs.declared.Block.{Block}
 use Rattle.units.specs.declared.Slot.{Slot}
 use Rattle.index.specs.declared.Cursor.{Cursor}
 use Rattle.index.specs.View.{Inside, items_from}
 use Rattle.places.specs.Cut.{PlacesFor}
-use Rattle.free_runs.specs.declared.Free.{Free}
 use Rattle.free_runs.specs.View.{free_view}
 
 abbrev pub place_view : Maybe (Slot × Held) → Option Place
@@ -139,6 +139,6 @@ pub run-says : (n : ℕ) (v : Volume) (path : List ℕ) (slots : ℕ) (r x : May
     → (m : ℕ) → slots ≡ m → place_run n v path m ≡ place_view x
 run-says n v path slots r x told e m k = ap (place_run n v path) (sym k) ∙ sym told ∙ ap place_view e
 
-pub file-says : (n : ℕ) (g : Geometry) (es : List Entry) (k : ℕ) (r x : Free) → free_view r ≡ place_file n g es k → r ≡ x
+pub file-says : (n : ℕ) (g : Geometry) (es : List Entry) (k : ℕ) (r x : Maybe Block) → free_view r ≡ place_file n g es k → r ≡ x
     → (m : ℕ) → k ≡ m → place_file n g es m ≡ free_view x
 file-says n g es k r x told e m j = ap (place_file n g es) (sym j) ∙ sym told ∙ ap free_view e

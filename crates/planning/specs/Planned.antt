@@ -1,5 +1,5 @@
 -- What a plan says: the refusal of the create, or what it leaves of the tidied image, that the image opens, and that the site lies in one of its length.
-use Rattle.std.specs.Prelude.{ℕ, ◌+◌, ◌-◌, ◌*◌, ◌≤◌, ◌≡◌, true, false, List, length, ℤ}
+use Rattle.std.specs.Prelude.{ℕ, ◌+◌, ◌-◌, ◌*◌, ◌≤◌, ◌≡◌, true, false, List, length, ℤ, Result, Ok, Err}
 use Rattle.std.proofs.Common.{sym, ap, ◌∙◌, arith, mul-le-mul_right, le-mul_of_pos_right}
 use Rattle.std.proofs.Math.Path.{ap₂}
 use Rattle.std.proofs.Math.Option.{none, some}
@@ -29,20 +29,21 @@ use Rattle.judging.specs.View.{Opened, volume_of}
 use Rattle.placing.specs.Site.{site_view, NewIn}
 use Rattle.placing.specs.declared.Site.{Site}
 use Rattle.planning.specs.Places.{site_from, place-past}
-use Rattle.planning.specs.declared.Plan.{Plan}
-use Rattle.planning.specs.declared.Plan.TheVariants.{Refused, At}
+use Rattle.refusals.specs.declared.Refusal.{Refusal}
+use Rattle.refusals.specs.declared.Refusal.TheVariants.{Later, Name, Live, Orphan, NoSlots, NoBlocks}
+use Rattle.refusals.specs.View.{number_of}
 
-unfoldable pub Planned : List ℕ → New → List ℕ → ℤ → Plan → Type 0
-Planned s new path stamp (Refused n) = create_of s new path stamp ≡ refused_write s n
-Planned s new path stamp (At p) =
+unfoldable pub Planned : List ℕ → New → List ℕ → ℤ → Result Site Refusal → Type 0
+Planned s new path stamp (Err e) = create_of s new path stamp ≡ refused_write s (number_of e)
+Planned s new path stamp (Ok p) =
     (create_of s new path stamp ≡ wrote (created (tidy_image s (volume_of s (geometry_view p.old))) (site_view p) new path stamp))
     × Opened s p.old
     × NewIn (length s) new path (site_view p)
 
 -- ---- by the tests, in their order
-pub planned-refused : (s : List ℕ) (new : New) (path : List ℕ) (stamp : ℤ) (n : ℕ) → judge s ≡ refused n → Planned s new path stamp (Refused n)
+pub planned-refused : (s : List ℕ) (new : New) (path : List ℕ) (stamp : ℤ) (e : Refusal) → judge s ≡ refused (number_of e) → Planned s new path stamp (Err e)
 unfolding Planned
-planned-refused s new path stamp n e = create-refused s n e new path stamp
+planned-refused s new path stamp e j = create-refused s (number_of e) j new path stamp
 
 -- the tests 9, 10, 12 and 13 passed
 pub record Admitted (s : List ℕ) (g : Held) (path : List ℕ) : Type 0 where
@@ -68,23 +69,23 @@ module _ (s : List ℕ) (g : Held) (opened : Opened s g) where
       record { current = current; named = named; absent = is_none (lookup path (entries v)) absent; nearest = d }
 
   module _ (new : New) (path : List ℕ) (stamp : ℤ) where
-    pub planned-later : writable (geometry_view g) ≡ false → Planned s new path stamp (Refused 9)
+    pub planned-later : writable (geometry_view g) ≡ false → Planned s new path stamp (Err Later)
     unfolding Planned
     planned-later l = create-later s v opened l new path stamp
 
     module _ (current : writable (geometry_view g) ≡ true) where
-      pub planned-name : new_path_good path ≡ false → Planned s new path stamp (Refused 10)
+      pub planned-name : new_path_good path ≡ false → Planned s new path stamp (Err Name)
       unfolding Planned
       planned-name p = create-name s v opened current new path stamp p
 
       module _ (named : new_path_good path ≡ true) where
-        pub planned-live : is_some (lookup path (entries v)) ≡ true → Planned s new path stamp (Refused 12)
+        pub planned-live : is_some (lookup path (entries v)) ≡ true → Planned s new path stamp (Err Live)
         unfolding Planned
         planned-live e = let f = is-some (lookup path (entries v)) e in
             create-live s v opened current new path stamp named f.0 f.1
 
         module _ (absent : is_some (lookup path (entries v)) ≡ false) where
-          pub planned-orphan : nearest_live (entries v) (leading path) ≡ false → Planned s new path stamp (Refused 13)
+          pub planned-orphan : nearest_live (entries v) (leading path) ≡ false → Planned s new path stamp (Err Orphan)
           unfolding Planned
           planned-orphan d = create-orphan s v opened current new path stamp named (is_none (lookup path (entries v)) absent) d
 
@@ -93,7 +94,7 @@ module _ (s : List ℕ) (g : Held) (opened : Opened s g) where
     pub few-slots : new_slots (edition_view g.edition) new path ≤ 6
     few-slots = omega (arith, continuing-new (edition_view g.edition) (kind_of new) (length path) (new-path path passed.named).1)
 
-    pub planned-slots : (stamp : ℤ) → place_run (length s) v path (new_slots (edition_view g.edition) new path) ≡ none → Planned s new path stamp (Refused 15)
+    pub planned-slots : (stamp : ℤ) → place_run (length s) v path (new_slots (edition_view g.edition) new path) ≡ none → Planned s new path stamp (Err NoSlots)
     unfolding Planned
     planned-slots stamp r = create-slots s v opened passed.current new path stamp passed.named passed.absent passed.nearest r
 
@@ -106,7 +107,7 @@ module _ (s : List ℕ) (g : Held) (opened : Opened s g) where
       run-grown = place-grown (length s) v path (new_slots (edition_view g.edition) new path) q o.geometry-good run-placed
 
       pub planned-blocks : (stamp : ℤ) → place_file (length s) q.geometry (entries v) (new_blocks (geometry_view g) new) ≡ none
-          → Planned s new path stamp (Refused 16)
+          → Planned s new path stamp (Err NoBlocks)
       unfolding Planned
       planned-blocks stamp b = create-blocks s v opened passed.current new path stamp passed.named passed.absent passed.nearest q r b
 
@@ -159,7 +160,7 @@ module _ (s : List ℕ) (g : Held) (opened : Opened s g) where
             (create-done s v opened passed.current new path stamp passed.named passed.absent passed.nearest q r start b, opened, site-in stamp)
 
         pub planned-at : (stamp : ℤ) (slots blocks : ℕ) → slots ≡ new_slots (edition_view g.edition) new path → blocks ≡ new_blocks (geometry_view g) new
-            → (p : Site) → site_view p ≡ site_from (geometry_view g) q.geometry q.slot slots start blocks stamp → Planned s new path stamp (At p)
+            → (p : Site) → site_view p ≡ site_from (geometry_view g) q.geometry q.slot slots start blocks stamp → Planned s new path stamp (Ok p)
         unfolding Planned
         planned-at stamp slots blocks k n p e =
             placed stamp (site_view p) (e ∙ ap₂ (λ (x y : ℕ). site_from (geometry_view g) q.geometry q.slot x start y stamp) k n)

@@ -19,12 +19,10 @@ ghost use Rattle.planning.specs.Places.{place_view, site_from, Begins};
 ghost use Rattle.planning.specs.Planned.{Planned, Admitted};
 ghost use Rattle.placing.specs.Site.{new_of, site_view};
 
-use free_runs::Free;
 use geometry::Geometry;
-use index::{Cursor, Unused};
-use judging::Kept;
+use index::Cursor;
 use placing::{New, Site};
-use super_block::SuperBlock;
+use refusals::Refusal;
 use units::{Block, Slot};
 
 // ---- a place for the run
@@ -54,8 +52,8 @@ fn place_run(
     ensures { place_view result ≡ place_run (length img.now) (volume_of img.now (geometry_view g)) path.now n }
 {
     match index::lowest_unused(img, sums, places::places_for(img, sums, from, path), n) {
-        Unused::At(slot) => Some((slot, g)),
-        Unused::Nothing => grown_place(img.len() as u64, g, n),
+        Some(slot) => Some((slot, g)),
+        None => grown_place(img.len() as u64, g, n),
     }
 }
 
@@ -63,25 +61,18 @@ fn place_run(
 
 // The lowest k free blocks below the ceiling block of `grown`, the geometry after any growth of the index; no blocks stand at 0. The keys of all
 // regions stand in order from place i of `keys` on.
-fn place_file(img: &[u8], grown: Geometry, keys: &[u64], i: usize, k: u64) -> Free
+fn place_file(img: &[u8], grown: Geometry, keys: &[u64], i: usize, k: u64) -> Option<Block>
     requires { (grown.block_field ≤ 5) × (grown.index_bytes ≤ length img.now) }
     ensures { (es : List Entry) → HasRegions es (drop i keys.now) → free_view result ≡ place_file (length img.now) (geometry_view grown) es k }
 {
     if k == 0 {
-        return Free::At(Block::at(0));
+        return Some(Block::at(0));
     }
     let ceiling = grown.ceiling(img.len() as u64);
     free_runs::lowest_free(keys, i, k, grown.data_start(), ceiling)
 }
 
 // ---- the plan
-
-// The refusal of a create, or where it puts what it makes.
-#[derive(Clone, Copy)]
-pub enum Plan {
-    Refused(u8),
-    At(Site),
-}
 
 // All of it at these places: the data area grows only if the blocks pass its end.
 fn site_at(
@@ -117,81 +108,58 @@ fn plan_places(
     keys: &[u64],
     i: usize,
     new: New,
-) -> Plan
+) -> Result<Site, Refusal>
     requires { Opened img.now g × Begins img.now g from × Admitted img.now g new.path.now × KeysOf img.now g (drop i keys.now) × SumsFrom img.now sums.now from }
     ensures { Planned img.now (new_of new.entry.made) new.entry.path.now (signed_of new.entry.stamp) result }
 {
-    let path = new.path;
     let bytes = new.made.bytes();
-    let slots = slots::run_slots(g.edition, new.made.kind(), path.len() as u64);
-    match place_run(img, sums, g, from, path, slots) {
-        None => Plan::Refused(15),
-        Some((slot, grown)) => {
-            let blocks = free_runs::blocks_needed(g.block_length(), bytes.len() as u64);
-            match place_file(img, grown, keys, i, blocks) {
-                Free::Nothing => Plan::Refused(16),
-                Free::At(start) => Plan::At(site_at(
-                    g, grown, slot, slots, start, blocks, new.stamp,
-                )),
-            }
-        }
-    }
+    let slots = slots::run_slots(g.edition, new.made.kind(), new.path.len() as u64);
+    let (slot, grown) = place_run(img, sums, g, from, new.path, slots).ok_or(Refusal::NoSlots)?;
+    let blocks = free_runs::blocks_needed(g.block_length(), bytes.len() as u64);
+    let start = place_file(img, grown, keys, i, blocks).ok_or(Refusal::NoBlocks)?;
+    Ok(site_at(g, grown, slot, slots, start, blocks, new.stamp))
 }
 
 // 9, 10, 12 and 13: whether the volume may be written, and by this path.
-fn plan_opened(img: &[u8], g: Geometry, keys: &[u64], i: usize, new: New) -> Plan
+fn plan_opened(img: &[u8], g: Geometry, keys: &[u64], i: usize, new: New) -> Result<Site, Refusal>
     requires { Opened img.now g × KeysOf img.now g (drop i keys.now) }
     ensures { Planned img.now (new_of new.entry.made) new.entry.path.now (signed_of new.entry.stamp) result }
 {
     if !g.is_writable() {
-        return Plan::Refused(9);
+        return Err(Refusal::Later);
     }
     if !names::new_path_good(new.path) {
-        return Plan::Refused(10);
+        return Err(Refusal::Name);
     }
     let mut sums = [0u8; sums::ROOM];
     let from = super_block::first_slot(img, g, &mut sums);
-    if paths::is_found(paths::lookup(img, &sums, from, new.path)) {
-        return Plan::Refused(12);
+    if paths::lookup(img, &sums, from, new.path).is_some() {
+        return Err(Refusal::Live);
     }
     if !path_rules::nearest_live(img, &sums, from, new.path) {
-        return Plan::Refused(13);
+        return Err(Refusal::Orphan);
     }
     plan_places(img, &sums, g, from, keys, i, new)
 }
 
-// 6 to 8, and then the rest. The lent scratch keeps the keys of the regions.
-fn plan_judged(img: &[u8], g: Geometry, keys: &mut [u64], tmp: &mut [u64], new: New) -> Plan
-    requires { SuperGood img.now g × (min (g.index_bytes / 64) 4_094 ≤ length keys.old) × (length keys.old ≤ length tmp.old) }
-    ensures { Planned img.now (new_of new.entry.made) new.entry.path.now (signed_of new.entry.stamp) result }
-{
-    match judging::judge_index(img, g, keys, tmp) {
-        Kept::Refused(n) => Plan::Refused(n),
-        Kept::Good(opened, i) => plan_opened(img, opened, keys, i, new),
-    }
-}
-
-// The same with scratch for N slots.
-fn plan_with<const N: usize>(img: &[u8], g: Geometry, new: New) -> Plan
+// 6 to 8, and then the rest, with scratch for N slots, which keeps the keys of the regions.
+fn plan_with<const N: usize>(img: &[u8], g: Geometry, new: New) -> Result<Site, Refusal>
     requires { SuperGood img.now g × (min (g.index_bytes / 64) 4_094 ≤ N) × (N ≤ 4_094) }
     ensures { Planned img.now (new_of new.entry.made) new.entry.path.now (signed_of new.entry.stamp) result }
 {
     let mut keys = [0u64; N];
     let mut tmp = [0u64; N];
-    plan_judged(img, g, &mut keys, &mut tmp, new)
+    let (opened, i) = judging::judge_index(img, g, &mut keys, &mut tmp)?;
+    plan_opened(img, opened, &keys, i, new)
 }
 
-// All that a create tests, on any image and any arguments. Few slots take little scratch, which costs little to clear.
-pub fn plan_create(img: &[u8], new: New) -> Plan
+// All that a create tests, on any image and any arguments: the refusal, or where it puts what it makes. Scratch for few slots costs little to clear.
+pub fn plan_create(img: &[u8], new: New) -> Result<Site, Refusal>
     ensures { Planned img.now (new_of new.entry.made) new.entry.path.now (signed_of new.entry.stamp) result }
 {
-    match super_block::judge_super(img) {
-        SuperBlock::Refused(n) => Plan::Refused(n),
-        SuperBlock::Good(g) => {
-            if judging::has_few(g) {
-                return plan_with::<{ judging::FEW }>(img, g, new);
-            }
-            plan_with::<{ judging::MOST }>(img, g, new)
-        }
+    let g = super_block::judge_super(img)?;
+    if judging::has_few(g) {
+        return plan_with::<{ judging::FEW }>(img, g, new);
     }
+    plan_with::<{ judging::MOST }>(img, g, new)
 }

@@ -14,7 +14,7 @@ ghost use Rattle.super_block.specs.View.{Judged};
 ghost use Rattle.tidying.specs.Tidied.{spot_tidied};
 
 use geometry::Geometry;
-use index::Cursor;
+use index::{Ahead, Cursor};
 use slots::Spot;
 
 // The slots from a spot up to the cursor behind it, if they are left over.
@@ -34,9 +34,7 @@ fn tidy_from(img: &mut [u8], sums: &[u8], from: Cursor)
 {
     let mut c = from;
     while 0 < c.left {
-        let next = index::further(img, sums, c);
-        let here = next.here;
-        let rest = next.rest;
+        let Ahead { here, rest } = index::further(img, sums, c);
         tidy_spot(img, here, rest);
         c = rest;
     }

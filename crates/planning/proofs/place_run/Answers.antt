@@ -28,8 +28,8 @@ lowest_unused-requires c =
 pub grown_place-requires : goal.grown_place-requires
 grown_place-requires c = let p = c.requires in ((opened-super _ _ p.0).good, p.3)
 
-pub returns-in-At : goal.returns-in-At
-returns-in-At c = sym (place-unused _ _ _ _ _ (searched (goal.at.returns-in-At c).After-lowest_unused ∙ ap unused_view c.in-At.is))
+pub returns-in-Some : goal.returns-in-Some
+returns-in-Some c = sym (place-unused _ _ _ _ _ (searched (goal.at.returns-in-Some c).After-lowest_unused ∙ ap unused_view c.in-Some.is))
 
-pub returns-in-Nothing : goal.returns-in-Nothing
-returns-in-Nothing c = c.grown_place.ensures ∙ sym (place-grown _ _ _ _ (searched (goal.at.returns-in-Nothing c).After-lowest_unused ∙ ap unused_view c.in-Nothing.is))
+pub returns-in-None : goal.returns-in-None
+returns-in-None c = c.grown_place.ensures ∙ sym (place-grown _ _ _ _ (searched (goal.at.returns-in-None c).After-lowest_unused ∙ ap unused_view c.in-None.is))

@@ -5,7 +5,9 @@ use lib.ListN.{length}
 use Prim.Native.Nat.{ℕ, ◌+◌}
 use mathlib.Core.List.{List}
 use mathlib.Core.Path.{ap₂}
-use Rattle.std.specs.Prelude.{Option}
+use Rattle.std.specs.Prelude.{Option, Some, None}
+use Rattle.std.proofs.lemmas.Result.{err_from_is_err_and}
+use Rattle.refusals.specs.declared.Refusal.TheVariants.{NoSlots, NoBlocks}
 use Rattle.rules.specs.Index.{continuing}
 use Rattle.rules.specs.Regions.{blocks_needed}
 use Rattle.rules.specs.Writing.{New, new_slots, new_blocks, place_run, place_file}
@@ -13,15 +15,15 @@ use Rattle.rules.specs.Refusals.{Volume, entries}
 use Rattle.editions.specs.View.{edition_view}
 use Rattle.geometry.specs.View.{geometry_view}
 use Rattle.geometry.specs.declared.Geometry.{Geometry}
+use Rattle.units.specs.declared.Block.{Block}
 use Rattle.units.specs.declared.Slot.{Slot}
 use Rattle.judging.specs.View.{volume_of, opened-super}
 use Rattle.placing.specs.Site.{new_of}
-use Rattle.free_runs.specs.declared.Free.{Free}
 use Rattle.free_runs.specs.View.{free_view}
 use Rattle.planning.specs.Places.{place_view, run-says, file-says}
 use Rattle.planning.specs.Planned.{few-slots, run-grown, end_fits, planned-slots, planned-blocks, planned-at}
 use Rattle.planning.proofs.plan_places.Goals as goal
-use Rattle.planning.proofs.plan_places.Goals.{After-blocks_needed-blocks, After-place_file, After-place_run, After-run_slots-slots, In-Some, Start}
+use Rattle.planning.proofs.plan_places.Goals.{After-blocks_needed-blocks, After-place_file, After-place_run, After-run_slots-slots, In_ok-slot, In_ok-start, Start}
 
 -- what is new, and the volume that it is new in
 abbrev made : Start → New
@@ -41,39 +43,54 @@ blocks-are c = c.blocks_needed-blocks.ensures ∙ ap₂ blocks_needed c.block_le
 run_is : (c : After-place_run) (r : Option (Slot × Geometry)) → c.place_run.result ≡ r → place_run (length c.args.img.now) (volume (goal.at.After-place_run c).Start) c.args.new.path.now (new_slots (edition_view c.args.g.edition) (made (goal.at.After-place_run c).Start) c.args.new.path.now) ≡ place_view r
 run_is c r e = run-says _ _ _ _ _ _ c.place_run.ensures e _ (slots-are (goal.at.After-place_run c).After-run_slots-slots)
 
-run-said : (c : In-Some) → place_run (length c.args.img.now) (volume (goal.at.In-Some c).Start) c.args.new.path.now (new_slots (edition_view c.args.g.edition) (made (goal.at.In-Some c).Start) c.args.new.path.now)
-    ≡ some (record { slot = c.in-Some.slot.0; geometry = geometry_view c.in-Some.grown })
-run-said c = run_is (goal.at.In-Some c).After-place_run _ c.in-Some.is
+slot-found : (c : In_ok-slot) → c.place_run.result ≡ Some (c.in_ok-slot.slot, c.in_ok-slot.grown)
+slot-found c = grind arith
+
+run-said : (c : In_ok-slot) → place_run (length c.args.img.now) (volume (goal.at.In_ok-slot c).Start) c.args.new.path.now (new_slots (edition_view c.args.g.edition) (made (goal.at.In_ok-slot c).Start) c.args.new.path.now)
+    ≡ some (record { slot = c.in_ok-slot.slot.0; geometry = geometry_view c.in_ok-slot.grown })
+run-said c = run_is (goal.at.In_ok-slot c).After-place_run _ (slot-found c)
 
 -- the place of the blocks
-file-is : (c : After-place_file) (r : Free) → c.place_file.result ≡ r → place_file (length c.args.img.now) (geometry_view c.in-Some.grown) (entries (volume (goal.at.After-place_file c).Start)) (new_blocks (geometry_view c.args.g) (made (goal.at.After-place_file c).Start))
+file-is : (c : After-place_file) (r : Option Block) → c.place_file.result ≡ r → place_file (length c.args.img.now) (geometry_view c.in_ok-slot.grown) (entries (volume (goal.at.After-place_file c).Start)) (new_blocks (geometry_view c.args.g) (made (goal.at.After-place_file c).Start))
     ≡ free_view r
 file-is c r e = file-says _ _ _ _ _ _ (c.place_file.ensures _ c.requires.3) e _ (blocks-are (goal.at.After-place_file c).After-blocks_needed-blocks)
 
+start-found : (c : In_ok-start) → c.place_file.result ≡ Some c.in_ok-start.start
+start-found c = grind arith
+
 pub place_run-requires : goal.place_run-requires
 place_run-requires c =
-    (c.requires.0, c.requires.1, omega (arith, slots-are c), omega (arith, slots-are c, few-slots _ _ c.requires.0 (made (goal.at.place_run-requires c).Start) _ c.requires.2), c.requires.4)
+    let s = slots-are (goal.at.place_run-requires c).After-run_slots-slots in
+    (c.requires.0, c.requires.1, omega (arith, s), omega (arith, s, few-slots _ _ c.requires.0 (made (goal.at.place_run-requires c).Start) _ c.requires.2), c.requires.4)
 
 pub block_length-requires : goal.block_length-requires
 block_length-requires c = (opened-super _ _ c.requires.0).good.field-high
 
 pub place_file-requires : goal.place_file-requires
 place_file-requires c =
-    let z = (run-grown _ _ c.requires.0 _ _ c.requires.2 _ (run-said (goal.at.place_file-requires c).In-Some)).good in
+    let z = (run-grown _ _ c.requires.0 _ _ c.requires.2 _ (run-said (goal.at.place_file-requires c).In_ok-slot)).good in
     (z.field-high, z.index-fits)
 
 pub site_at-requires : goal.site_at-requires
 site_at-requires c =
-    omega (arith, end_fits _ _ c.requires.0 _ _ c.requires.2 _ (run-said (goal.at.site_at-requires c).In-Some) _ (file-is (goal.at.site_at-requires c).After-place_file _ c.in-At.is), blocks-are (goal.at.site_at-requires c).After-blocks_needed-blocks)
+    omega (arith, end_fits _ _ c.requires.0 _ _ c.requires.2 _ (run-said (goal.at.site_at-requires c).In_ok-slot) _ (file-is (goal.at.site_at-requires c).After-place_file _ (start-found (goal.at.site_at-requires c).In_ok-start)), blocks-are (goal.at.site_at-requires c).After-blocks_needed-blocks)
 
-pub returns-in-None : goal.returns-in-None
-returns-in-None c = planned-slots _ _ c.requires.0 _ _ c.requires.2 _ (run_is (goal.at.returns-in-None c).After-place_run _ c.in-None.is)
+pub returns-in_err-slot : goal.returns-in_err-slot
+returns-in_err-slot c =
+    let gone : c.place_run.result ≡ None = grind arith in
+    let told : c.in_err-slot.field-0.0 ≡ NoSlots = grind arith in
+    let p = err_from_is_err_and c.from_residual.result c.from_residual.ensures.1 in
+    rw (p.1, p.2, told) (planned-slots _ _ c.requires.0 _ _ c.requires.2 _ (run_is (goal.at.returns-in_err-slot c).After-place_run _ gone))
 
-pub returns-in-Nothing : goal.returns-in-Nothing
-returns-in-Nothing c =
-    planned-blocks _ _ c.requires.0 _ _ c.requires.2 _ (run-said (goal.at.returns-in-Nothing c).In-Some) _ (file-is (goal.at.returns-in-Nothing c).After-place_file _ c.in-Nothing.is)
+pub returns-in_err-start : goal.returns-in_err-start
+returns-in_err-start c =
+    let gone : c.place_file.result ≡ None = grind arith in
+    let told : c.in_err-start.field-0.0 ≡ NoBlocks = grind arith in
+    let p = err_from_is_err_and c.from_residual-in_err-start.result c.from_residual-in_err-start.ensures.1 in
+    rw (p.1, p.2, told)
+    (planned-blocks _ _ c.requires.0 _ _ c.requires.2 _ (run-said (goal.at.returns-in_err-start c).In_ok-slot) _ (file-is (goal.at.returns-in_err-start c).After-place_file _ gone))
 
-pub returns-in-At : goal.returns-in-At
-returns-in-At c =
-    planned-at _ _ c.requires.0 _ _ c.requires.2 _ (run-said (goal.at.returns-in-At c).In-Some) _ (file-is (goal.at.returns-in-At c).After-place_file _ c.in-At.is) _ _ _
-    (slots-are (goal.at.returns-in-At c).After-run_slots-slots) (blocks-are (goal.at.returns-in-At c).After-blocks_needed-blocks) _ c.site_at.ensures
+pub returns : goal.returns
+returns c =
+    planned-at _ _ c.requires.0 _ _ c.requires.2 _ (run-said (goal.at.returns c).In_ok-slot) _ (file-is (goal.at.returns c).After-place_file _ (start-found (goal.at.returns c).In_ok-start)) _ _ _
+    (slots-are (goal.at.returns c).After-run_slots-slots) (blocks-are (goal.at.returns c).After-blocks_needed-blocks) _ c.site_at.ensures

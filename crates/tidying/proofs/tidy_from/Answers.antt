@@ -6,22 +6,22 @@ use Rattle.tidying.proofs.tidy_from.Goals as goal
 pub loop-c-init : goal.loop-c-init
 loop-c-init c = let p = c.requires in (p.0, tidies-none _ _, refl, p.1)
 
-pub further-next-requires : goal.further-next-requires
-further-next-requires c = let i = c.loop-c.invariant in (i.0, c.loop-c-test.true, i.3)
+pub further-requires : goal.further-requires
+further-requires c = let i = c.loop-c.invariant in (i.0, c.loop-c-test.true, i.3)
 
 pub tidy_spot-requires : goal.tidy_spot-requires
 tidy_spot-requires c =
     let l = c.loop-c in
-    step_room _ l.c l.invariant.0 c.loop-c-test.true _ _ c.further-next.ensures _ refl
+    step_room _ l.c l.invariant.0 c.loop-c-test.true _ _ c.further.ensures _ refl
 
 pub loop-c-smaller : goal.loop-c-smaller
-loop-c-smaller c = c.further-next.ensures.less
+loop-c-smaller c = c.further.ensures.less
 
 pub loop-c-preserved : goal.loop-c-preserved
 loop-c-preserved c =
     let l = c.loop-c in
     let m = c.loop-c-test.true in
-    let o = c.further-next.ensures in
+    let o = c.further.ensures in
     let t = c.tidy_spot in
     (step-walks _ l.c l.invariant.0 m _ _ o _ t.ensures, tidies-more _ l.c l.invariant.0 m _ _ o _ t.ensures _ _ l.invariant.1, omega (arith, l.invariant.2, t.auto), step-sums _ l.c l.invariant.0 m _ _ o _ t.ensures _ l.invariant.3)
 
