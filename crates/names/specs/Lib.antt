@@ -2,4 +2,5 @@
 pub mod Automaton
 pub mod Masks
 pub mod Texts
+pub mod View
 pub mod Reader

@@ -1,13 +1,13 @@
 -- A reader of a name: what is left of it decides, from where the reader stands, as the whole does.
-use Rattle.std.specs.Prelude.{ℕ, zero, suc, ◌+◌, ◌-◌, ◌≤◌, ◌<◌, ◌≡◌, refl, Bool, ◌&&◌, List, [], ◌∷◌, length, drop, ltb}
+use Rattle.std.specs.Prelude.{ℕ, ◌+◌, ◌≤◌, ◌<◌, ◌≡◌, refl, Bool, ◌&&◌, List, [], ◌∷◌, length, drop, ltb, Option, Some, None}
 use Rattle.std.proofs.Math.Path.{sym, ap}
 use Rattle.std.proofs.Common.{ap₂, ◌∙◌}
 use Rattle.std.proofs.Math.Bool.{true, false, not}
 use native.Mathlib.Omega.{arith}
-use Rattle.std.proofs.Math.Decide.{dec_lt}
 use Rattle.std.proofs.Math.ListN.{get_or}
 use Rattle.std.proofs.Math.Dec.{eqb}
 use borrow.Author.Tests.{ne_eqb, not-true}
+use Rattle.std.specs.Option.{MatchOption, option_eq}
 use Rattle.rules.specs.Lists.{pick, any}
 use Rattle.rules.specs.Lists.Laws.{and-true, and_right, and_last}
 use Rattle.rules.specs.Fields.{up_to_zero, has_zero}
@@ -18,47 +18,35 @@ use Rattle.names.specs.Automaton.{part_step, run_parts, run-parts, run-bad, part
 use Rattle.names.specs.Masks.{turns_nothing}
 use Rattle.names.specs.Texts.{good_from, ascii_good, ascii-zero, from-ascii, from-nil}
 use Rattle.names.specs.declared.Reader.{Reader}
-use Rattle.names.specs.declared.Stored.{Stored}
-use Rattle.names.specs.declared.Stored.TheVariants.{Bytes, Bad}
 
 -- what a reader promises: the bytes behind it make a good name of those before it
 abbrev pub good_at : Reader → List ℕ → Bool
 good_at r bs = good_from r.due r.low r.high bs
 
 -- up to the first zero the rule P holds, of so many bytes, or it does not
-abbrev pub In : (List ℕ → Bool) → List ℕ → Stored → Type 0
-In P s (Bytes n) = (P (up_to_zero s) ≡ true) × (n ≡ length (up_to_zero s))
-In P s Bad = P (up_to_zero s) ≡ false
+abbrev pub In : (List ℕ → Bool) → List ℕ → Option ℕ → Type 0
+In P s (Some n) = (P (up_to_zero s) ≡ true) × (n ≡ length (up_to_zero s))
+In P s None = P (up_to_zero s) ≡ false
 
-module _ (P : List ℕ → Bool) (s : List ℕ) (r : Stored) (h : In P s r) where
-  in_bytes : (n : ℕ) → r ≡ Bytes n → (P (up_to_zero s) ≡ true) × (n ≡ length (up_to_zero s))
-  in_bytes n e = rw e at h
-
-  in-bad : r ≡ Bad → P (up_to_zero s) ≡ false
-  in-bad e = rw e at h
-
+module _ (P : List ℕ → Bool) (s : List ℕ) where
   -- of a field, which a zero must end
-  pub field-bytes : (n : ℕ) → r ≡ Bytes n → ltb n (length s) ≡ (has_zero s && P (up_to_zero s))
-  field-bytes n e = let (f, g) = in_bytes n e in rw (g, f, has_zero-ltb s) (sym (and_last _))
-
-  pub field-bad : r ≡ Bad → false ≡ (has_zero s && P (up_to_zero s))
-  field-bad e = sym (and_right (has_zero s) _ (in-bad e))
+  pub field : (Q : ℕ → Type 0) (t : Bool) (r : Option ℕ) → In P s r → ((n : ℕ) → Q n → t ≡ ltb n (length s)) → MatchOption r (t ≡ false) Q
+      → t ≡ (has_zero s && P (up_to_zero s))
+  field Q t (Some n) (f, g) test h = test n h ∙ rw (g, f, has_zero-ltb s) (sym (and_last _))
+  field Q t None f test h = h ∙ sym (and_right (has_zero s) _ f)
 
   -- of all of s
-  module _ (texts : (s : List ℕ) → P s ≡ true → text_good s ≡ true) where
-    pub whole-bytes : (n : ℕ) → r ≡ Bytes n → eqb n (length s) ≡ P s
-    whole-bytes n e = let (f, g) = in_bytes n e in rw g (whole-text P texts s f)
-
-    pub whole-bad : r ≡ Bad → false ≡ P s
-    whole-bad e = no-whole-text P texts s (in-bad e)
+  pub whole : ((s : List ℕ) → P s ≡ true → text_good s ≡ true) → (r : Option ℕ) → In P s r → option_eq eqb r (Some (length s)) ≡ P s
+  whole texts (Some n) (f, g) = rw g (whole-text P texts s f)
+  whole texts None f = no-whole-text P texts s f
 
 -- where a reader ends: its last test tells whether the rule holds
 ended-in : (P : List ℕ → Bool) (s : List ℕ) (i : ℕ) (t : Bool) → up_to_zero (drop i s) ≡ [] → i + length (up_to_zero (drop i s)) ≡ length (up_to_zero s)
-    → t ≡ P (up_to_zero s) → (e : Stored) → e ≡ pick t (Bytes i) Bad → In P s e
+    → t ≡ P (up_to_zero s) → (e : Option ℕ) → e ≡ pick t (Some i) None → In P s e
 unfolding pick
 ended-in P s i t z h f e g = rw g (by t f)
   where
-    by : (t : Bool) → t ≡ P (up_to_zero s) → In P s (pick t (Bytes i) Bad)
+    by : (t : Bool) → t ≡ P (up_to_zero s) → In P s (pick t (Some i) None)
     by true f = let k : length (up_to_zero (drop i s)) ≡ 0 = ap length z in (sym f, omega (arith, h, k))
     by false f = sym f
 
@@ -92,17 +80,6 @@ on-end : (path : List ℕ) (r : Reader) (part : ℕ) → Reached path [] r part 
 unfolding path_good
 on-end path r part h = ap₂ (λ a b. a && b) (from-nil _ _ _ ∙ h.1) (ap (λ q. eqb q 3) (run-nil part ∙ h.2) ∙ run-parts path)
 
--- every byte of s from place a up to b is a plain character
-abbrev pub Plain : List ℕ → ℕ → ℕ → Type 0
-Plain s a b = (j : ℕ) → a ≤ j → j < b → (ascii_good (get_or s j 0) && turns_nothing (get_or s j 0)) ≡ true
-
-pub plain_more : (s : List ℕ) (a b : ℕ) → Plain s a b → (ascii_good (get_or s b 0) && turns_nothing (get_or s b 0)) ≡ true → Plain s a (b + 1)
-plain_more s a b h e j k l = by (dec_lt j b)
-  where
-    by : Dec (j < b) → (ascii_good (get_or s j 0) && turns_nothing (get_or s j 0)) ≡ true
-    by (yes m) = h j k m
-    by (no m) = let f : j ≡ b = omega arith in rw f e
-
 -- ---- the loop over a path, at byte i of s
 abbrev pub PathAt : List ℕ → Reader → ℕ → ℕ → Type 0
 PathAt s r part i = (i ≤ length s) × (i + length (up_to_zero (drop i s)) ≡ length (up_to_zero s)) × Reached (up_to_zero s) (up_to_zero (drop i s)) r part
@@ -124,18 +101,8 @@ module _ (s : List ℕ) (r : Reader) (part i : ℕ) (h : PathAt s r part i) wher
     pub bad-part : q ≡ 4 → path_good (up_to_zero s) ≡ false
     bad-part f = on-bad (up_to_zero s) (get_or s i 0) (up_to_zero (drop (i + 1) s)) r part (rw (← zero-next s i l z) h.2) q e f
 
-  pub path-ended : up_to_zero (drop i s) ≡ [] → (e : Stored) → e ≡ pick (eqb r.due 0 && eqb part 3) (Bytes i) Bad → In path_good s e
+  pub path-ended : up_to_zero (drop i s) ≡ [] → (e : Option ℕ) → e ≡ pick (eqb r.due 0 && eqb part 3) (Some i) None → In path_good s e
   path-ended z e f = ended-in path_good s i _ z h.1 (on-end (up_to_zero s) r part (rw (← z) h.2)) e f
-
--- any number of plain bytes, the last of them before place n
-module _ (s : List ℕ) (r : Reader) (z : r.due ≡ 0) (n : ℕ) (m : n ≤ length s) where
-  run : (k i : ℕ) → i + k ≡ n → Plain s i n → PathAt s r 3 i → PathAt s r 3 n
-  run zero i e p h = let f : i ≡ n = omega arith in rw (← f) h
-  run (suc k) i e p h =
-      run k (i + 1) (omega arith) (λ j a b. p j (omega arith) b) (plain_turn s r 3 i h (omega arith) z (p i (omega arith) (omega arith)))
-
-  pub plain-run : (i : ℕ) → i ≤ n → Plain s i n → PathAt s r 3 i → PathAt s r 3 n
-  plain-run i l p h = run (n - i) i (omega arith) p h
 
 -- ---- the loop over a volume name, at byte i of s
 abbrev pub NameAt : List ℕ → Reader → ℕ → Type 0
@@ -163,5 +130,5 @@ module _ (s : List ℕ) (r : Reader) (i : ℕ) (h : NameAt s r i) where
       let f : any (eqb slash) (up_to_zero s) ≡ false = sym h.3 ∙ ap (any (eqb slash)) z in
       from-nil _ _ _ ∙ sym (ap (good_at r) z) ∙ h.2 ∙ rw f (sym (and_last _))
 
-  pub name-ended : up_to_zero (drop i s) ≡ [] → (e : Stored) → e ≡ pick (eqb r.due 0 && eqb 3 3) (Bytes i) Bad → In volume_text_good s e
+  pub name-ended : up_to_zero (drop i s) ≡ [] → (e : Option ℕ) → e ≡ pick (eqb r.due 0 && eqb 3 3) (Some i) None → In volume_text_good s e
   name-ended z e f = ended-in volume_text_good s i _ z h.1 (and_last (eqb r.due 0) ∙ name-end z) e f

@@ -2,15 +2,16 @@
 
 #![tactic(auto)]
 
-ghost use Rattle.std.specs.Prelude.{◌≡◌, ◌&&◌, List, ◌∷◌, ℕ, ◌≤◌, length, eqb, ltb};
+ghost use Rattle.std.specs.Prelude.{◌≡◌, ◌&&◌, List, ◌∷◌, ℕ, ◌≤◌, eqb, ltb, Some, None};
 ghost use Rattle.rules.specs.Lists.{pick};
 ghost use Rattle.rules.specs.Fields.{up_to_zero, has_zero};
 ghost use Rattle.rules.specs.Names.{text_good, path_good, new_path_good, volume_text_good, volume_name_good};
 ghost use Rattle.rules.specs.Index.{name_good};
 ghost use Rattle.names.specs.Automaton.{part_step};
+ghost use Rattle.names.specs.View.{part_view, stepped_view};
 ghost use Rattle.names.specs.Masks.{bit_of, turns_nothing};
 ghost use Rattle.names.specs.Texts.{ascii_good, good_from};
-ghost use Rattle.names.specs.Reader.{good_at, In, Plain};
+ghost use Rattle.names.specs.Reader.{good_at, In};
 
 // ---- characters of one byte
 
@@ -26,10 +27,7 @@ const PART: u64 = 0x2BFF_3BFB_0000_0000;
 fn half(low: u64, high: u64, b: u8) -> u64
     ensures { result ≡ pick (ltb b 64) low high }
 {
-    if b < 64 {
-        return low;
-    }
-    high
+    if b < 64 { low } else { high }
 }
 
 // The bit of b.
@@ -88,10 +86,10 @@ fn first_of_two(b: u8) -> Reader
     requires { (0xC2 ≤ b) × (b ≤ 0xDF) }
     ensures { (bs : List ℕ) → good_at result bs ≡ text_good (b ∷ bs) }
 {
-    if b == 0xC2 {
-        return due(1, 0xA1, 0xBF);
+    match b {
+        0xC2 => due(1, 0xA1, 0xBF),
+        _ => due(1, 0x80, 0xBF),
     }
-    due(1, 0x80, 0xBF)
 }
 
 // After the first of three bytes. What two bytes can say is not said in three, and U+D800 to U+DFFF are no characters.
@@ -99,13 +97,11 @@ fn first_of_three(b: u8) -> Reader
     requires { (0xE0 ≤ b) × (b ≤ 0xEF) }
     ensures { (bs : List ℕ) → good_at result bs ≡ text_good (b ∷ bs) }
 {
-    if b == 0xE0 {
-        return due(2, 0xA0, 0xBF);
+    match b {
+        0xE0 => due(2, 0xA0, 0xBF),
+        0xED => due(2, 0x80, 0x9F),
+        _ => due(2, 0x80, 0xBF),
     }
-    if b == 0xED {
-        return due(2, 0x80, 0x9F);
-    }
-    due(2, 0x80, 0xBF)
 }
 
 // After the first of four bytes. What three bytes can say is not said in four, and the last code is U+10FFFF.
@@ -113,13 +109,11 @@ fn first_of_four(b: u8) -> Reader
     requires { (0xF0 ≤ b) × (b ≤ 0xF4) }
     ensures { (bs : List ℕ) → good_at result bs ≡ text_good (b ∷ bs) }
 {
-    if b == 0xF0 {
-        return due(3, 0x90, 0xBF);
+    match b {
+        0xF0 => due(3, 0x90, 0xBF),
+        0xF4 => due(3, 0x80, 0x8F),
+        _ => due(3, 0x80, 0xBF),
     }
-    if b == 0xF4 {
-        return due(3, 0x80, 0x8F);
-    }
-    due(3, 0x80, 0xBF)
 }
 
 // After the first byte of a character. 0x80 to 0xBF are first bytes of none, 0xC0 and 0xC1 of none that needs two.
@@ -129,19 +123,12 @@ fn begun(b: u8) -> Reader
     if is_ascii(b) {
         return BETWEEN;
     }
-    if b < 0xC2 {
-        return NOWHERE;
+    match b {
+        0xC2..=0xDF => first_of_two(b),
+        0xE0..=0xEF => first_of_three(b),
+        0xF0..=0xF4 => first_of_four(b),
+        _ => NOWHERE,
     }
-    if b < 0xE0 {
-        return first_of_two(b);
-    }
-    if b < 0xF0 {
-        return first_of_three(b);
-    }
-    if b < 0xF5 {
-        return first_of_four(b);
-    }
-    NOWHERE
 }
 
 // After one byte more.
@@ -151,10 +138,7 @@ fn step(p: Reader, b: u8) -> Reader
     if p.due == 0 {
         return begun(b);
     }
-    if b < p.low {
-        return NOWHERE;
-    }
-    if p.high < b {
+    if b < p.low || p.high < b {
         return NOWHERE;
     }
     due(p.due - 1, 0x80, 0xBF)
@@ -162,102 +146,71 @@ fn step(p: Reader, b: u8) -> Reader
 
 // ---- paths
 
-// The state tells what was read of the part so far: 0 nothing, 1 `.`, 2 `..`, 3 any other bytes; from 4 on, that an earlier part was not good.
-fn part_step(state: u8, b: u8) -> u8
-    ensures { result ≡ part_step state b }
+// What was read of a part so far: nothing, `.`, `..` or any other bytes.
+#[derive(Clone, Copy, Debug, PartialEq, Eq)]
+enum Part {
+    Nothing,
+    Dot,
+    Dots,
+    Other,
+}
+
+// After one byte more: none where a slash ends a part that is not good.
+fn part_step(part: Part, b: u8) -> Option<Part>
+    ensures { stepped_view result ≡ part_step (part_view part) b }
 {
-    if 4 <= state {
-        return 4;
+    match (b, part) {
+        (b'/', Part::Other) => Some(Part::Nothing),
+        (b'/', _) => None,
+        (b'.', Part::Nothing) => Some(Part::Dot),
+        (b'.', Part::Dot) => Some(Part::Dots),
+        _ => Some(Part::Other),
     }
-    if b == b'/' {
-        return if state == 3 { 0 } else { 4 };
-    }
-    if b != b'.' {
-        return 3;
-    }
-    if state < 2 { state + 1 } else { 3 }
 }
 
-// What stands before the first zero byte, or is all there is: a good name of so many bytes, or none.
-#[derive(Clone, Copy)]
-enum Stored {
-    Bytes(usize),
-    Bad,
-}
-
-// The reader stops after n bytes: no character is begun, and the last part is good.
-fn ended(reader: Reader, part: u8, n: usize) -> Stored
-    ensures { result ≡ pick (eqb reader.due 0 && eqb part 3) (Stored.Bytes n) Stored.Bad }
+// The reader stops after n bytes, which are a good name where no character is begun and the last part is good.
+fn ended(reader: Reader, part: Part, n: usize) -> Option<usize>
+    ensures { result ≡ pick (eqb reader.due 0 && eqb (part_view part) 3) (Some n) None }
 {
-    if reader.due == 0 {
-        if part == 3 {
-            return Stored::Bytes(n);
-        }
+    if reader.due == 0 && part == Part::Other {
+        Some(n)
+    } else {
+        None
     }
-    Stored::Bad
 }
 
-// Where the plain characters from place `from` on end.
-fn plain_from(s: &[u8], from: usize) -> usize
-    requires { from ≤ length s.now }
-    ensures { (from ≤ result) × (result ≤ length s.now) × Plain s.now from result }
-{
-    let mut i = from;
-    while i < s.len() {
-        if !is_plain(s[i]) {
-            return i;
-        }
-        i += 1;
-    }
-    i
-}
-
-// The name rule, the rule on parts and the search for the zero, in one pass. Most bytes are plain characters, which begin and end nothing.
-fn path_in(s: &[u8]) -> Stored
+// The name rule, the rule on parts and the search for the zero, in one pass: how many bytes stand before the first zero byte, or are all there is, where they are a
+// good name. Most bytes are plain characters, which begin and end nothing.
+fn path_in(s: &[u8]) -> Option<usize>
     ensures { In path_good s.now result }
 {
     let mut reader = BETWEEN;
-    let mut part: u8 = 0;
-    let mut i: usize = 0;
-    while i < s.len() {
-        let b = s[i];
-        if reader.due == 0 {
-            if is_plain(b) {
-                part = 3;
-                i = plain_from(s, i + 1);
-                continue;
-            }
+    let mut part = Part::Nothing;
+    for (i, &b) in s.iter().enumerate() {
+        if reader.due == 0 && is_plain(b) {
+            part = Part::Other;
+            continue;
         }
         if b == 0 {
             return ended(reader, part, i);
         }
-        part = part_step(part, b);
-        if part == 4 {
-            return Stored::Bad;
-        }
+        part = part_step(part, b)?;
         reader = step(reader, b);
-        i += 1;
     }
-    ended(reader, part, i)
+    ended(reader, part, s.len())
 }
 
 // The field of a stored path, with the slots that continue it.
 pub fn path_field_good(field: &[u8]) -> bool
     ensures { result ≡ name_good field.now }
 {
-    match path_in(field) {
-        Stored::Bytes(n) => n < field.len(),
-        Stored::Bad => false,
-    }
+    path_in(field).is_some_and(|n| n < field.len())
 }
 
 pub fn path_good(s: &[u8]) -> bool
     ensures { result ≡ path_good s.now }
 {
-    match path_in(s) {
-        Stored::Bytes(n) => n == s.len(),
-        Stored::Bad => false,
-    }
+    path_in(s) == Some(s.len())
 }
 
 // A path to create.
@@ -269,43 +222,34 @@ pub fn new_path_good(s: &[u8]) -> bool
 
 // ---- volume names
 
-// The name rule, the search for a slash and that for the zero, in one pass.
-fn volume_name_in(s: &[u8]) -> Stored
+// The name rule, the search for a slash and that for the zero, in one pass: how many bytes, as of a path.
+fn volume_name_in(s: &[u8]) -> Option<usize>
     ensures { In volume_text_good s.now result }
 {
     let mut reader = BETWEEN;
-    let mut i: usize = 0;
-    while i < s.len() {
-        let b = s[i];
+    for (i, &b) in s.iter().enumerate() {
         if b == 0 {
-            return ended(reader, 3, i);
+            return ended(reader, Part::Other, i);
         }
         if b == b'/' {
-            return Stored::Bad;
+            return None;
         }
         reader = step(reader, b);
-        i += 1;
     }
-    ended(reader, 3, i)
+    ended(reader, Part::Other, s.len())
 }
 
 // The field of a stored volume name.
 pub fn volume_field_good(field: &[u8]) -> bool
     ensures { result ≡ (has_zero field.now && volume_text_good (up_to_zero field.now)) }
 {
-    match volume_name_in(field) {
-        Stored::Bytes(n) => n < field.len(),
-        Stored::Bad => false,
-    }
+    volume_name_in(field).is_some_and(|n| n < field.len())
 }
 
 fn volume_text_good(s: &[u8]) -> bool
     ensures { result ≡ volume_text_good s.now }
 {
-    match volume_name_in(s) {
-        Stored::Bytes(n) => n == s.len(),
-        Stored::Bad => false,
-    }
+    volume_name_in(s) == Some(s.len())
 }
 
 // The name of a volume to format.

@@ -6,5 +6,5 @@ use Rattle.names.proofs.half.Goals as goal
 pub returns-then-b-lt64 : goal.returns-then-b-lt64
 returns-then-b-lt64 c = sym (pick_true _ _ (lt-ltb _ _ c.if-b-lt64.true))
 
-pub returns : goal.returns
-returns c = sym (pick-false _ _ (le-ltb _ _ c.if-b-lt64.false))
+pub returns-else-b-lt64 : goal.returns-else-b-lt64
+returns-else-b-lt64 c = sym (pick-false _ _ (le-ltb _ _ c.if-b-lt64.false))

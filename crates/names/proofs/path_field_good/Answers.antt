@@ -1,12 +1,10 @@
+use borrow.Author.Rules.{rules}
+use borrow.Author.Tests.{tests}
 use Rattle.rules.specs.Names.{path_good}
 use Rattle.rules.specs.Index.{name_good}
-use Rattle.names.specs.Reader.{field-bytes, field-bad}
+use Rattle.names.specs.Reader.{field}
 use Rattle.names.proofs.path_field_good.Goals as goal
 
-pub returns-in-Bytes : goal.returns-in-Bytes
+pub returns : goal.returns
 unfolding name_good
-returns-in-Bytes c = field-bytes path_good _ _ c.path_in.ensures _ c.in-Bytes.is
-
-pub returns-in-Bad : goal.returns-in-Bad
-unfolding name_good
-returns-in-Bad c = field-bad path_good _ _ c.path_in.ensures c.in-Bad.is
+returns c = field path_good c.args.field.now _ _ _ c.path_in.ensures (λ n h. search (rules, tests)) c.is_some_and.ensures

@@ -1,7 +1,7 @@
-use Prim.Native.Nat.{◌-◌}
-use mathlib.Core.Path.{refl}
+use mathlib.Core.Path.{◌≡◌, refl}
 use native.Mathlib.Omega.{arith}
 use borrow.Author.Rules.{rules}
+use lib.ListN.{length}
 use Rattle.rules.specs.Fields.Laws.{zero-last, zero-past}
 use Rattle.names.specs.Texts.{from_start}
 use Rattle.names.specs.Reader.{slash-found, name-turn, name-ended}
@@ -20,4 +20,6 @@ pub loop-i-preserved : goal.loop-i-preserved
 loop-i-preserved c = name-turn _ _ _ c.loop-i.invariant c.loop-i-test.true c.if-b-eq0.false c.if-b-eq47.false _ c.step-reader.ensures
 
 pub returns : goal.returns
-returns c = name-ended _ _ _ c.loop-i.invariant (zero-past _ _ c.loop-i-test.false) _ c.ended-2.ensures
+returns c =
+    let e : c.loop-i.i ≡ length c.args.s.now = omega arith in
+    name-ended _ _ _ c.loop-i.invariant (zero-past _ _ c.loop-i-test.false) _ (rw e c.ended-2.ensures)
