@@ -19,20 +19,15 @@ use slots::Spot;
 fn leads_to(name: &[u8], path: &[u8]) -> bool
     ensures { result ≡ is_below (up_to_zero name.now) path.now }
 {
-    let mut i: usize = 0;
-    while i < path.len() {
-        if i == name.len() {
-            return path[i] == b'/';
+    for (&x, &y) in name.iter().zip(path) {
+        if x == 0 {
+            return y == b'/';
         }
-        if name[i] == 0 {
-            return path[i] == b'/';
-        }
-        if name[i] != path[i] {
+        if x != y {
             return false;
         }
-        i += 1;
     }
-    false
+    path.get(name.len()) == Some(&b'/')
 }
 
 // Whether the entry is a live directory that the path lies below.
@@ -65,14 +60,7 @@ fn slots_before(img: &[u8], sums: &[u8], from: Cursor, path: &[u8]) -> u64
 fn has_slash(path: &[u8]) -> bool
     ensures { result ≡ any (eqb slash) path.now }
 {
-    let mut i: usize = 0;
-    while i < path.len() {
-        if path[i] == b'/' {
-            return true;
-        }
-        i += 1;
-    }
-    false
+    path.contains(&b'/')
 }
 
 // The cursor over the slots that a new entry of the path may have: those before the entries of its directories, where the edition asks for it.
@@ -80,20 +68,14 @@ pub fn places_for(img: &[u8], sums: &[u8], from: Cursor, path: &[u8]) -> Cursor
     requires { Walks img.now from × SumsFrom img.now sums.now from }
     ensures { PlacesFor img.now from path.now result }
 {
-    let edition = from.edition;
-    if !edition.before_directories() {
+    if !from.edition.before_directories() {
         return from;
     }
     if !has_slash(path) {
         return from;
     }
-    let at = from.at;
-    let slot = from.slot;
-    let left = slots_before(img, sums, from, path);
     Cursor {
-        edition,
-        at,
-        slot,
-        left,
+        left: slots_before(img, sums, from, path),
+        ..from
     }
 }

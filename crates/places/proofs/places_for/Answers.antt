@@ -10,4 +10,4 @@ returns-then-not-has_slash c = places-top _ _ _ c.requires.0 (sym c.has_slash.en
 
 pub returns : goal.returns
 returns c =
-    places-cut _ _ _ c.requires.0 (sym c.before_directories.ensures ∙ c.if-not-before_directories.false) _ c.slots_before-left.ensures _ refl refl refl refl
+    places-cut _ _ _ c.requires.0 (sym c.before_directories.ensures ∙ c.if-not-before_directories.false) _ c.slots_before.ensures _ refl refl refl refl
