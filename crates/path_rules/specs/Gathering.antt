@@ -5,6 +5,7 @@ use Rattle.std.proofs.Common.{sym, ◌∙◌, arith, drop_of_length-le}
 use Rattle.std.proofs.Math.Bool.{true, false}
 use mathlib.Core.List.{List, [], ◌∷◌, ◌++◌, map, append_assoc, append-nil}
 use Rattle.std.proofs.Math.Seq.{drop-length}
+use Rattle.std.proofs.lemmas.List.{nil_from_length}
 use Rattle.rules.specs.Lists.{only, keep_if, All, Pairs, Perm, thus}
 use Rattle.rules.specs.Fields.{Bytes, up_to_zero}
 use Rattle.rules.specs.Editions.{Edition}
@@ -177,10 +178,6 @@ module _ (f : ℕ → Entry) (keys : List ℕ) (i : ℕ) where
   unfolding chain_from
   chain-end e h = rw (drop_of_length-le keys {i = i} h)
 
-  pub chain-nothing : length keys ≤ i → true ≡ chain (map f (drop i keys))
-  unfolding chain
-  chain-nothing h = rw (drop_of_length-le keys {i = i} h)
-
   module _ (k : ℕ) (more : i < length keys) (here : k ≡ get_or keys i 0) where
     pub chain-stop : (e : Entry) → entry_follows e (f k) ≡ false → false ≡ chain_from e (map f (drop i keys))
     unfolding chain_from
@@ -190,13 +187,20 @@ module _ (f : ℕ → Entry) (keys : List ℕ) (i : ℕ) where
     unfolding chain_from
     chain_next e h = rw (here-and-behind keys i k more here, h)
 
-    pub chain-above : no_slash (f k).path ≡ false → false ≡ chain (map f (drop i keys))
-    unfolding chain
-    chain-above h = rw (here-and-behind keys i k more here, h)
+-- and what it begins with
+module _ (f : ℕ → Entry) (keys : List ℕ) where
+  pub chain-nothing : length keys ≡ 0 → true ≡ chain (map f keys)
+  unfolding chain
+  chain-nothing e = rw (nil_from_length keys e)
 
-    pub chain_first : no_slash (f k).path ≡ true → chain_from (f k) (map f (drop (i + 1) keys)) ≡ chain (map f (drop i keys))
+  module _ (k : ℕ) (ks : List ℕ) (cons : keys ≡ k ∷ ks) where
+    pub chain-above : no_slash (f k).path ≡ false → false ≡ chain (map f keys)
     unfolding chain
-    chain_first h = rw (here-and-behind keys i k more here, h)
+    chain-above h = rw (cons, h)
+
+    pub chain_first : no_slash (f k).path ≡ true → chain_from (f k) (map f ks) ≡ chain (map f keys)
+    unfolding chain
+    chain_first h = rw (cons, h)
 
 -- what is read of an entry at its key's place
 module _ (s : List ℕ) (c : Cursor) (k p : ℕ) (place : p ≡ k % 65_536) where

@@ -2,6 +2,7 @@ use Prim.Native.Nat.{ℕ, ◌+◌, ◌≤◌, ◌<◌}
 use mathlib.Core.Path.{◌≡◌, sym, ap, ◌∙◌}
 use mathlib.Core.List.{List}
 use lib.ListN.{length, drop}
+use Rattle.std.proofs.lemmas.List.{take_rest}
 use borrow.Author.Tests.{eqb-false}
 use borrow.Author.Rules.{rules}
 use Rattle.rules.specs.Fields.{up_to_zero}
@@ -24,19 +25,19 @@ returns-then-y-eq0 c xs =
     part-second-ends _ _ _ xs _ (λ z. eqb-false _ _ c.requires.1 (z ∙ sym c.if-y-eq0.true)) c.if-y-eq0.true ∙ named (goal.at.returns-then-y-eq0 c).Start xs
 
 pub returns-then-directory : goal.returns-then-directory
-returns-then-directory c xs = c.no_slash.ensures ∙ part-below _ _ _ xs _ c.if-x-eq0.true c.if-y-eq47.true c.if-directory.true ∙ named (goal.at.returns-then-directory c).Start xs
+returns-then-directory c xs = c.no_slash.ensures ∙ ap (λ (bs : List ℕ). no_slash (up_to_zero bs)) (take_rest c.args.name.now (c.args.i + 1)) ∙ part-below _ _ _ xs _ c.if-x-eq0.true c.if-y-eq47.true c.if-directory.true ∙ named (goal.at.returns-then-directory c).Start xs
 
 pub returns-else-directory : goal.returns-else-directory
 returns-else-directory c xs = part-barred _ _ _ xs _ c.if-x-eq0.true c.if-y-eq47.true c.if-directory.false ∙ named (goal.at.returns-else-directory c).Start xs
 
 pub returns-then-x-eq0 : goal.returns-then-x-eq0
 returns-then-x-eq0 c xs =
-    c.no_slash-then-x-eq0.ensures ∙ part-first-ends _ _ _ xs _ c.if-x-eq0.true c.if-y-eq0.false c.if-y-eq47.false ∙ named (goal.at.returns-then-x-eq0 c).Start xs
+    c.no_slash-then-x-eq0.ensures ∙ ap (λ (bs : List ℕ). no_slash (up_to_zero bs)) (take_rest c.args.name.now (c.args.i + 1)) ∙ part-first-ends _ _ _ xs _ c.if-x-eq0.true c.if-y-eq0.false c.if-y-eq47.false ∙ named (goal.at.returns-then-x-eq0 c).Start xs
 
 pub returns-then-rank : goal.returns-then-rank
 returns-then-rank c xs =
     let l : rank c.args.x < rank c.args.y = rw (← c.rank.ensures, ← c.rank-2.ensures) c.if-rank.true in
-    c.no_slash-then-rank.ensures ∙ ap no_slash (sym (starts-as c.args.name.now c.args.i c.args.y c.requires.0))
+    c.no_slash-then-rank.ensures ∙ ap (λ (bs : List ℕ). no_slash (up_to_zero bs)) (take_rest c.args.name.now c.args.i) ∙ ap no_slash (sym (starts-as c.args.name.now c.args.i c.args.y c.requires.0))
     ∙ part-later _ _ _ xs _ c.if-x-eq0.false c.if-y-eq0.false c.requires.1 l ∙ named (goal.at.returns-then-rank c).Start xs
 
 pub returns : goal.returns
