@@ -1,6 +1,7 @@
 -- Where the entries of an index begin.
-use Rattle.std.specs.Prelude.{ℕ, ◌≤◌, ◌≡◌, true, false, List}
-use Rattle.std.proofs.Math.Path.{ap}
+use Rattle.std.specs.Prelude.{ℕ, ◌≤◌, ◌≡◌, Bool, true, false, List, Option, Some, None}
+use Rattle.std.specs.Bool.{then_some}
+use Rattle.std.proofs.Math.Path.{sym, ap}
 use Rattle.rules.specs.Index.{items_of, entries_of, index_sound}
 use Rattle.geometry.specs.declared.Geometry.{Geometry}
 use Rattle.geometry.specs.View.{geometry_view}
@@ -10,8 +11,6 @@ use Rattle.index.specs.Steps.{Walks, entries_from}
 use Rattle.super_block.specs.View.{SuperGood, good-judged}
 use Rattle.super_block.specs.Ends.{sound-walks}
 use Rattle.regions.specs.Bounds.{Bounded, good-bounded}
-use Rattle.region_table.specs.declared.First.{First}
-use Rattle.region_table.specs.declared.First.TheVariants.{Unsound, At}
 
 -- of a sound index: the cursor walks through all its entries
 pub record LeadsTo (s : List ℕ) (g : Geometry) (sums : List ℕ) (c : Cursor) : Type 0 where
@@ -22,13 +21,13 @@ pub record LeadsTo (s : List ℕ) (g : Geometry) (sums : List ℕ) (c : Cursor) 
   pub few : c.left ≤ 4_094
   pub summed : SumsFrom s sums c
 
-unfoldable pub Leads : List ℕ → Geometry → List ℕ → First → Type 0
-Leads s g sums Unsound = index_sound s (geometry_view g) (items_of s (geometry_view g)) ≡ false
-Leads s g sums (At c) = LeadsTo s g sums c
+unfoldable pub Leads : List ℕ → Geometry → List ℕ → Option Cursor → Type 0
+Leads s g sums None = index_sound s (geometry_view g) (items_of s (geometry_view g)) ≡ false
+Leads s g sums (Some c) = LeadsTo s g sums c
 
 module _ (s : List ℕ) (g : Geometry) (sums : List ℕ) where
   pub leads-to : SuperGood s g → (c : Cursor) → items_from s c ≡ items_of s (geometry_view g) → Inside s c → c.left ≤ 4_094 → SumsFrom s sums c
-      → index_sound s (geometry_view g) (items_of s (geometry_view g)) ≡ true → Leads s g sums (At c)
+      → index_sound s (geometry_view g) (items_of s (geometry_view g)) ≡ true → Leads s g sums (Some c)
   unfolding Leads
   leads-to super c items inside few summed sound =
       let j = good-judged s g super in
@@ -41,11 +40,18 @@ module _ (s : List ℕ) (g : Geometry) (sums : List ℕ) where
         summed = summed;
       }
 
-  module _ (r : First) (h : Leads s g sums r) where
-    pub first-unsound : r ≡ Unsound → index_sound s (geometry_view g) (items_of s (geometry_view g)) ≡ false
+  -- the cursor goes with the test of the index
+  pub leads-told : SuperGood s g → (c : Cursor) → items_from s c ≡ items_of s (geometry_view g) → Inside s c → c.left ≤ 4_094 → SumsFrom s sums c
+      → (r : Bool) → r ≡ index_sound s (geometry_view g) (items_of s (geometry_view g)) → Leads s g sums (then_some r c)
+  unfolding Leads
+  leads-told super c items inside few summed true e = leads-to super c items inside few summed (sym e)
+  leads-told super c items inside few summed false e = sym e
+
+  module _ (r : Option Cursor) (h : Leads s g sums r) where
+    pub first-unsound : r ≡ None → index_sound s (geometry_view g) (items_of s (geometry_view g)) ≡ false
     unfolding Leads
     first-unsound e = rw e at h
 
-    pub first-at : (c : Cursor) → r ≡ At c → LeadsTo s g sums c
+    pub first-at : (c : Cursor) → r ≡ Some c → LeadsTo s g sums c
     unfolding Leads
     first-at c e = rw e at h

@@ -1,13 +1,14 @@
 -- The code's regions and answers in the rules' words.
-use Rattle.std.specs.Prelude.{ℕ, ◌-◌, ◌≤◌, ◌≡◌, Bool, ◌&&◌, List, ◌++◌, map, length, take, drop, eqb, ltb}
-use Rattle.rules.specs.Lists.{pick, All}
+use Rattle.std.specs.Prelude.{ℕ, ◌-◌, ◌≤◌, ◌≡◌, List, ◌++◌, map, length, take, drop, Result, Ok, Err}
+use Rattle.rules.specs.Lists.{All}
 use Rattle.rules.specs.Regions.{Extent}
-use Rattle.rules.specs.RegionTable.{Tabled, in_order, apart_number, table_of}
+use Rattle.rules.specs.RegionTable.{Tabled, in_order, apart_number, untabled, table_of}
 use Rattle.ordering.specs.Regions.{extents_in_turn}
 use Rattle.ordering.specs.Tables.{key_extent, SmallExtent}
 use Rattle.region_table.specs.declared.Region.{Region}
 use Rattle.region_table.specs.declared.TableAnswer.{TableAnswer}
-use Rattle.region_table.specs.declared.Passed.{Passed}
+use Rattle.refusals.specs.declared.Refusal.{Refusal}
+use Rattle.refusals.specs.View.{number_of}
 
 abbrev pub extent_view : Region → Extent
 extent_view r = record { start = r.start.0; end = r.end.0 }
@@ -25,10 +26,6 @@ laid n keys table = last_regions n keys ++ drop n table
 unfoldable pub ordered : ℕ → List Extent → List Extent
 ordered n table = in_order (take n table) ++ drop n table
 
--- what is compared of a region and those behind it
-unfoldable pub onward : Passed → List Extent → Bool
-onward p xs = p.apart && extents_in_turn p.end.0 xs
-
 -- ---- answers
 -- an answer beside the table that it leaves
 abbrev pub tabled_view : TableAnswer → List Extent → Tabled
@@ -37,25 +34,22 @@ tabled_view a table = record { answer = a.answer; regions = a.regions; table = t
 abbrev pub answered : ℕ → ℕ → TableAnswer
 answered n k = record { answer = n; regions = k }
 
--- of n regions, for a table of so many places, before they are compared
-unfoldable pub answer_of : ℕ → ℕ → TableAnswer
-answer_of n places = pick (ltb places n) (answered 18 0) (answered 0 n)
-
--- and once they are
-unfoldable pub concluded : TableAnswer → Bool → TableAnswer
-concluded a apart = pick (eqb a.answer 0) (answered (apart_number apart) a.regions) a
-
--- of the regions xs, as many as the answer says: in order and compared they make what the test makes of a table
-abbrev pub Makes : List ℕ → List Extent → TableAnswer → List Extent → Type 0
-Makes s table a xs = tabled_view (concluded a (extents_in_turn 0 (in_order xs))) (in_order xs ++ drop a.regions table) ≡ table_of s table
+-- of n regions xs: in order and compared they make what the test makes of a table
+abbrev pub Makes : List ℕ → List Extent → ℕ → List Extent → Type 0
+Makes s table n xs = tabled_view (answered (apart_number (extents_in_turn 0 (in_order xs))) n) (in_order xs ++ drop n table) ≡ table_of s table
 
 -- ---- what is known on the way
--- before the table is filled
-pub record Prepared (s keys : List ℕ) (places : ℕ) (a : TableAnswer) : Type 0 where
-  pub makes : (table : List Extent) → length table ≡ places → Makes s table a (last_regions a.regions keys)
-  pub fits : a.regions ≤ places
-  pub few : a.regions ≤ length keys
-  pub small : All SmallExtent (last_regions a.regions keys)
+-- n regions, before the table is filled
+pub record PreparedFor (s keys : List ℕ) (places n : ℕ) : Type 0 where
+  pub makes : (table : List Extent) → length table ≡ places → Makes s table n (last_regions n keys)
+  pub fits : n ≤ places
+  pub few : n ≤ length keys
+  pub small : All SmallExtent (last_regions n keys)
+
+-- these, or a refusal, which leaves each table of so many places as it was
+unfoldable pub Prepared : List ℕ → List ℕ → ℕ → Result ℕ Refusal → Type 0
+Prepared s keys places (Err e) = (table : List Extent) → length table ≡ places → table_of s table ≡ untabled (number_of e) table
+Prepared s keys places (Ok n) = PreparedFor s keys places n
 
 -- what can be put in order
 pub record Orderable (n : ℕ) (table : List Extent) : Type 0 where
@@ -63,8 +57,31 @@ pub record Orderable (n : ℕ) (table : List Extent) : Type 0 where
   pub few : n ≤ 4_094
   pub small : All SmallExtent (take n table)
 
--- once it is filled
-pub record TableFilled (s : List ℕ) (before after : List Extent) (a : TableAnswer) : Type 0 where
-  pub orderable : Orderable a.regions after
-  pub makes : Makes s before a (take a.regions after)
-  pub others : drop a.regions after ≡ drop a.regions before
+-- n regions, once they are laid into it
+pub record Filled (s : List ℕ) (before after : List Extent) (n : ℕ) : Type 0 where
+  pub orderable : Orderable n after
+  pub makes : Makes s before n (take n after)
+  pub others : drop n after ≡ drop n before
+
+-- once it is filled, or left as it was
+unfoldable pub TableFilled : List ℕ → List Extent → List Extent → Result ℕ Refusal → Type 0
+TableFilled s before after (Err e) = (after ≡ before) × (table_of s before ≡ untabled (number_of e) before)
+TableFilled s before after (Ok n) = Filled s before after n
+
+module _ (s keys : List ℕ) (places : ℕ) (r : Result ℕ Refusal) (p : Prepared s keys places r) where
+  pub prepared-err : (e : Refusal) → r ≡ Err e → (table : List Extent) → length table ≡ places → table_of s table ≡ untabled (number_of e) table
+  unfolding Prepared
+  prepared-err e i = rw i at p
+
+  pub prepared-ok : (n : ℕ) → r ≡ Ok n → PreparedFor s keys places n
+  unfolding Prepared
+  prepared-ok n i = rw i at p
+
+module _ (s : List ℕ) (before after : List Extent) (r : Result ℕ Refusal) (f : TableFilled s before after r) where
+  pub filled-err : (e : Refusal) → r ≡ Err e → (after ≡ before) × (table_of s before ≡ untabled (number_of e) before)
+  unfolding TableFilled
+  filled-err e i = rw i at f
+
+  pub filled-ok : (n : ℕ) → r ≡ Ok n → Filled s before after n
+  unfolding TableFilled
+  filled-ok n i = rw i at f

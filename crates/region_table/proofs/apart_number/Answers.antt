@@ -7,4 +7,4 @@ returns-then-apart c = rw c.if-apart.true
 
 pub returns-else-apart : goal.returns-else-apart
 unfolding apart_number
-returns-else-apart c = rw c.if-apart.false
+returns-else-apart c = rw c.if-apart.false c.from.ensures
