@@ -6,29 +6,17 @@ ghost use Rattle.std.specs.Prelude.{◌≡◌, ◌≤◌};
 ghost use Rattle.rules.specs.SuperBlock.{field_of, block_bytes};
 ghost use Rattle.blocks.specs.View.{field_view};
 
-// The stored field for a number of bytes per block.
-#[derive(Clone, Copy)]
-pub enum BlockField {
-    Bad,
-    Field(u8),
-}
-
-// Count of ones tests the power of two; trailing zeros less 7 gives the field.
-pub fn block_field(n: u64) -> BlockField
+// The stored field for a number of bytes per block. Count of ones tests the power of two; trailing zeros less 7 gives the field.
+pub fn block_field(n: u64) -> Option<u8>
     ensures { field_view result ≡ field_of n }
 {
-    if n < 256 {
-        return BlockField::Bad;
+    if n < 256 || 4096 < n {
+        return None;
     }
-    if 4096 < n {
-        return BlockField::Bad;
+    if n.count_ones() != 1 {
+        return None;
     }
-    let ones = u64::count_ones(n);
-    if ones != 1 {
-        return BlockField::Bad;
-    }
-    let zeros = u64::trailing_zeros(n);
-    BlockField::Field((zeros - 7) as u8)
+    Some((n.trailing_zeros() - 7) as u8)
 }
 
 // The bytes of a block, from its stored field.

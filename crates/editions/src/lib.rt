@@ -1,59 +1,51 @@
-// The editions of the layout, by value: what differs between them in code is here, side by side. Each test asks whether entries have sums, so that 1.10's comes first.
+// The editions of the layout, by value: what differs between them in code is here, side by side, edition 1.0 first and 1.10 second.
 
 #![tactic(auto)]
 
-ghost use Rattle.std.specs.Prelude.{◌≡◌, ◌+◌, ◌^◌, ◌≤◌, ◌<◌, eqb, leb};
+ghost use Rattle.std.specs.Prelude.{◌≡◌, ◌+◌, ◌^◌, ◌≤◌, ◌<◌, eqb, leb, is_some, IfSome};
 ghost use Rattle.rules.specs.Lists.{pick};
 ghost use Rattle.rules.specs.Editions.{version_of, version_named, edition_named, super_block_at, version_read, version_written, sum_length, sum_good, past_end, stored_end, keeps_deleted, before_directories};
 ghost use Rattle.editions.specs.View.{edition_view};
 
 use units::{Block, Offset};
 
-// Whether entries carry a sum: those of 1.10 do, those of 1.0 do not.
-#[derive(Clone, Copy)]
-pub struct Edition {
-    sums: bool,
-}
-
 // Editions 1.0 and 1.10.
-pub const FIRST: Edition = Edition { sums: false };
-
-pub const SECOND: Edition = Edition { sums: true };
-
-// Whether a caller's version byte names an edition.
-pub fn is_named(version: u64) -> bool
-    ensures { result ≡ version_named version }
-{
-    if version == 0x10 {
-        return true;
-    }
-    version == 0x1A
-}
-
-// The edition that it names.
-pub fn named(version: u64) -> Edition
-    ensures { edition_view result ≡ edition_named version }
-{
-    let sums = version == 0x1A;
-    Edition { sums }
+#[derive(Clone, Copy, Debug, PartialEq, Eq)]
+pub enum Edition {
+    First,
+    Second,
 }
 
 impl Edition {
+    // The edition that a caller's version byte names.
+    pub fn named(version: u64) -> Option<Edition>
+        ensures found { is_some result ≡ version_named version }
+        ensures edition { IfSome result (λ ed. edition_view ed ≡ edition_named version) }
+    {
+        match version {
+            0x10 => Some(Edition::First),
+            0x1A => Some(Edition::Second),
+            _ => None,
+        }
+    }
+
     // The version byte of a fresh volume, by which a caller names the edition.
     pub fn version(self) -> u8
         ensures { result ≡ version_of (edition_view self) }
     {
-        if self.sums { 0x1A } else { 0x10 }
+        match self {
+            Edition::First => 0x10,
+            Edition::Second => 0x1A,
+        }
     }
 
     // Where the super-block starts.
     pub fn super_block(self) -> Offset
         ensures { result.0 ≡ super_block_at (edition_view self) }
     {
-        if self.sums {
-            Offset::at(0x18E)
-        } else {
-            Offset::at(0x194)
+        match self {
+            Edition::First => Offset::at(0x194),
+            Edition::Second => Offset::at(0x18E),
         }
     }
 
@@ -61,10 +53,9 @@ impl Edition {
     pub fn reads(self, version: u8) -> bool
         ensures { result ≡ version_read (edition_view self) version }
     {
-        if self.sums {
-            version == 0x1A
-        } else {
-            0x10 <= version
+        match self {
+            Edition::First => 0x10 <= version,
+            Edition::Second => version == 0x1A,
         }
     }
 
@@ -72,24 +63,29 @@ impl Edition {
     pub fn writes(self, version: u8) -> bool
         ensures { result ≡ version_written (edition_view self) version }
     {
-        if self.sums { true } else { version <= 0x10 }
+        match self {
+            Edition::First => version <= 0x10,
+            Edition::Second => true,
+        }
     }
 
     // The bytes of an entry's sum, behind its type.
     pub fn sum_length(self) -> u64
         ensures { (result ≡ sum_length (edition_view self)) × (result ≤ 1) }
     {
-        if self.sums { 1 } else { 0 }
+        match self {
+            Edition::First => 0,
+            Edition::Second => 1,
+        }
     }
 
     // Whether the sum of an entry's bytes is right.
     pub fn sum_good(self, bytes: &[u8]) -> bool
         ensures { result ≡ sum_good (edition_view self) bytes.now }
     {
-        if self.sums {
-            fields::sums_to_zero(bytes)
-        } else {
-            true
+        match self {
+            Edition::First => true,
+            Edition::Second => fields::sums_to_zero(bytes),
         }
     }
 
@@ -98,10 +94,9 @@ impl Edition {
         requires { stored.0 + 1 < 2 ^ 64 }
         ensures { result.0 ≡ past_end (edition_view self) stored.0 }
     {
-        if self.sums {
-            behind_last(stored)
-        } else {
-            stored
+        match self {
+            Edition::First => stored,
+            Edition::Second => behind_last(stored),
         }
     }
 
@@ -109,10 +104,9 @@ impl Edition {
     pub fn ends_by(self, stored: Block, b: Block) -> bool
         ensures { result ≡ leb (past_end (edition_view self) stored.0) b.0 }
     {
-        if self.sums {
-            last_before(stored, b)
-        } else {
-            stored.is_at_or_before(b)
+        match self {
+            Edition::First => stored.is_at_or_before(b),
+            Edition::Second => last_before(stored, b),
         }
     }
 
@@ -120,10 +114,9 @@ impl Edition {
     pub fn stored_end(self, end: Block) -> Block
         ensures { result.0 ≡ stored_end (edition_view self) end.0 }
     {
-        if self.sums {
-            Block::at(end.blocks_past(Block::at(1)))
-        } else {
-            end
+        match self {
+            Edition::First => end,
+            Edition::Second => Block::at(end.blocks_past(Block::at(1))),
         }
     }
 
@@ -131,14 +124,14 @@ impl Edition {
     pub fn keeps_deleted(self) -> bool
         ensures { result ≡ keeps_deleted (edition_view self) }
     {
-        if self.sums { false } else { true }
+        matches!(self, Edition::First)
     }
 
     // Whether a new entry goes before the entries of its directories.
     pub fn before_directories(self) -> bool
         ensures { result ≡ before_directories (edition_view self) }
     {
-        if self.sums { true } else { false }
+        matches!(self, Edition::Second)
     }
 }
 
@@ -158,9 +151,5 @@ fn behind_last(last: Block) -> Block
 fn last_before(last: Block, b: Block) -> bool
     ensures { result ≡ leb (pick (eqb last.0 0) 0 (last.0 + 1)) b.0 }
 {
-    if last.number() == 0 {
-        true
-    } else {
-        last.is_before(b)
-    }
+    last.number() == 0 || last.is_before(b)
 }

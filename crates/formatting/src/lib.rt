@@ -6,12 +6,13 @@ ghost use Rattle.std.specs.Prelude.{◌≡◌, ◌≤◌, length};
 ghost use Rattle.rules.specs.Fields.{signed_of};
 ghost use Rattle.rules.specs.Writing.{fresh_geometry, formatted};
 ghost use Rattle.contracts.specs.Promises.{Formats};
+ghost use Rattle.refusals.specs.View.{answer_of};
 ghost use Rattle.editions.specs.View.{edition_view};
 ghost use Rattle.geometry.specs.View.{geometry_view};
 
-use blocks::BlockField;
 use editions::Edition;
 use geometry::Geometry;
+use refusals::Refusal;
 
 // The most blocks that the super-block can say are reserved.
 const MOST_RESERVED: u64 = 0xFFFF_FFFF;
@@ -44,7 +45,7 @@ fn fresh(n: u64, edition: Edition, field: u8, reserved: u32, stamp: u64) -> Geom
     }
 }
 
-// The refusal, 0 on success; `stamp` is the stamp's 64 bits.
+// `stamp` is the stamp's 64 bits.
 pub fn format(
     img: &mut [u8],
     version: u64,
@@ -52,32 +53,25 @@ pub fn format(
     reserved: u64,
     name: &[u8],
     stamp: u64,
-) -> u32
-    ensures { Formats img.old version bytes reserved name.now (signed_of stamp) result img.new }
+) -> Result<(), Refusal>
+    ensures { Formats img.old version bytes reserved name.now (signed_of stamp) (answer_of result) img.new }
 {
     let n = img.len() as u64;
     if !super_block::length_good(n) {
-        return 1;
+        return Err(Refusal::Length);
     }
-    if !editions::is_named(version) {
-        return 5;
+    let ed = Edition::named(version).ok_or(Refusal::Geometry)?;
+    let field = blocks::block_field(bytes).ok_or(Refusal::Geometry)?;
+    if MOST_RESERVED < reserved {
+        return Err(Refusal::Geometry);
     }
-    let ed = editions::named(version);
-    match blocks::block_field(bytes) {
-        BlockField::Bad => 5,
-        BlockField::Field(field) => {
-            if MOST_RESERVED < reserved {
-                return 5;
-            }
-            let g = fresh(n, ed, field, reserved as u32, stamp);
-            if !g.is_good(n) {
-                return 5;
-            }
-            if !names::volume_name_good(name) {
-                return 10;
-            }
-            write_volume(img, g, name);
-            0
-        }
+    let g = fresh(n, ed, field, reserved as u32, stamp);
+    if !g.is_good(n) {
+        return Err(Refusal::Geometry);
     }
+    if !names::volume_name_good(name) {
+        return Err(Refusal::Name);
+    }
+    write_volume(img, g, name);
+    Ok(())
 }

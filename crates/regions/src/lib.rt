@@ -16,6 +16,7 @@ ghost use Rattle.ordering.specs.Tables.{SmallExtent};
 ghost use Rattle.regions.specs.Bounds.{Bounded};
 ghost use Rattle.regions.specs.Gathering.{Gathers, InTheirOrder, Ordered, JudgesRegions};
 
+use editions::Edition;
 use geometry::Geometry;
 use index::Cursor;
 use slots::Head;
@@ -151,7 +152,7 @@ pub fn sort_keys(keys: &mut [u64], i: usize, tmp: &mut [u64])
     ensures { InTheirOrder (drop i keys.old) (drop i keys.new) }
 {
     let none = [0u8; 1];
-    sorting::sort_from(&none, editions::FIRST, Offset::at(0), keys, i, tmp);
+    sorting::sort_from(&none, Edition::First, Offset::at(0), keys, i, tmp);
 }
 
 // The regions from place i on put in order by their starts, if they do not stand in turn already; tmp is scratch. Whether they share no block.

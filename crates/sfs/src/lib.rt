@@ -27,14 +27,14 @@ pub fn sfs_format(
 ) -> u32
     ensures { Formats image.old version bytes_per_block reserved name.now stamp result image.new }
 {
-    formatting::format(
+    refusals::answer(formatting::format(
         image,
         version,
         bytes_per_block,
         reserved,
         name,
         stamps::to_bits(stamp),
-    )
+    ))
 }
 
 pub fn sfs_open(image: &[u8], out: &mut [u8]) -> Volume

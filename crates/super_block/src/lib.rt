@@ -104,11 +104,11 @@ fn find_magic(img: &[u8]) -> Option<Edition>
     requires { 512 ≤ length img.now }
     ensures { magic_view result ≡ edition_of img.now }
 {
-    if magic_good(img, editions::FIRST) {
-        return Some(editions::FIRST);
+    if magic_good(img, Edition::First) {
+        return Some(Edition::First);
     }
-    if magic_good(img, editions::SECOND) {
-        return Some(editions::SECOND);
+    if magic_good(img, Edition::Second) {
+        return Some(Edition::Second);
     }
     None
 }

@@ -6,7 +6,7 @@ use Rattle.rules.specs.Lists.Laws.{pick_true, pick-false}
 use Rattle.editions.proofs.last_before.Goals as goal
 
 pub returns-then-number-eq0 : goal.returns-then-number-eq0
-returns-then-number-eq0 c = let z = sym c.number.ensures ∙ c.if-number-eq0.true in rw (pick_true _ _ (eq-eqb _ _ z)) (sym (le-leb 0 c.args.b.0 (omega arith)))
+returns-then-number-eq0 c = let z = sym c.number.ensures ∙ c.if-number-eq0.true in rw (eq-eqb _ _ c.if-number-eq0.true, pick_true _ _ (eq-eqb _ _ z)) (sym (le-leb 0 c.args.b.0 (omega arith)))
 
 pub returns-else-number-eq0 : goal.returns-else-number-eq0
 returns-else-number-eq0 c =

@@ -2,10 +2,10 @@ use Rattle.rules.specs.Editions.{by_edition, before_directories}
 use Rattle.editions.specs.View.{is-second, is-first}
 use Rattle.editions.proofs.Edition.before_directories.Goals as goal
 
-pub returns-then-self : goal.returns-then-self
+pub returns-in-Second : goal.returns-in-Second
 unfolding before_directories by_edition
-returns-then-self c = rw (is-second _ c.if-self.true)
+returns-in-Second c = rw (is-second _ c.in-Second.is)
 
-pub returns-else-self : goal.returns-else-self
+pub returns-in_default : goal.returns-in_default
 unfolding before_directories by_edition
-returns-else-self c = rw (is-first _ c.if-self.false)
+returns-in_default c = rw (is-first _ c.in_default.is)

@@ -2,10 +2,10 @@ use Rattle.rules.specs.Editions.{by_edition, keeps_deleted}
 use Rattle.editions.specs.View.{is-second, is-first}
 use Rattle.editions.proofs.Edition.keeps_deleted.Goals as goal
 
-pub returns-then-self : goal.returns-then-self
+pub returns-in-First : goal.returns-in-First
 unfolding keeps_deleted by_edition
-returns-then-self c = rw (is-second _ c.if-self.true)
+returns-in-First c = rw (is-first _ c.in-First.is)
 
-pub returns-else-self : goal.returns-else-self
+pub returns-in_default : goal.returns-in_default
 unfolding keeps_deleted by_edition
-returns-else-self c = rw (is-first _ c.if-self.false)
+returns-in_default c = rw (is-second _ c.in_default.is)

@@ -3,10 +3,10 @@ use Rattle.rules.specs.Editions.{by_edition, stored_end}
 use Rattle.editions.specs.View.{is-second, is-first}
 use Rattle.editions.proofs.Edition.stored_end.Goals as goal
 
-pub returns-then-self : goal.returns-then-self
+pub returns-in-Second : goal.returns-in-Second
 unfolding stored_end by_edition
-returns-then-self c = rw (is-second _ c.if-self.true) (omega (arith, c.at-then-self.ensures, c.blocks_past.ensures, c.at.ensures))
+returns-in-Second c = rw (is-second _ c.in-Second.is) (omega (arith, c.at-in-Second.ensures, c.blocks_past.ensures, c.at.ensures))
 
-pub returns-else-self : goal.returns-else-self
+pub returns-in-First : goal.returns-in-First
 unfolding stored_end by_edition
-returns-else-self c = rw (is-first _ c.if-self.false)
+returns-in-First c = rw (is-first _ c.in-First.is)

@@ -4,10 +4,10 @@ use Rattle.rules.specs.Editions.{by_edition, sum_length}
 use Rattle.editions.specs.View.{is-second, is-first}
 use Rattle.editions.proofs.Edition.sum_length.Goals as goal
 
-pub returns-then-self : goal.returns-then-self
+pub returns-in-Second : goal.returns-in-Second
 unfolding sum_length by_edition
-returns-then-self c = rw (is-second _ c.if-self.true) (refl, omega arith)
+returns-in-Second c = rw (is-second _ c.in-Second.is) (refl, omega arith)
 
-pub returns-else-self : goal.returns-else-self
+pub returns-in-First : goal.returns-in-First
 unfolding sum_length by_edition
-returns-else-self c = rw (is-first _ c.if-self.false) (refl, omega arith)
+returns-in-First c = rw (is-first _ c.in-First.is) (refl, omega arith)

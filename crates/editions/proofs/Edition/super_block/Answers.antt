@@ -2,10 +2,10 @@ use Rattle.rules.specs.Editions.{by_edition, super_block_at}
 use Rattle.editions.specs.View.{is-second, is-first}
 use Rattle.editions.proofs.Edition.super_block.Goals as goal
 
-pub returns-then-self : goal.returns-then-self
+pub returns-in-Second : goal.returns-in-Second
 unfolding super_block_at by_edition
-returns-then-self c = rw (is-second _ c.if-self.true) c.at.ensures
+returns-in-Second c = rw (is-second _ c.in-Second.is) c.at-in-Second.ensures
 
-pub returns-else-self : goal.returns-else-self
+pub returns-in-First : goal.returns-in-First
 unfolding super_block_at by_edition
-returns-else-self c = rw (is-first _ c.if-self.false) c.at-else-self.ensures
+returns-in-First c = rw (is-first _ c.in-First.is) c.at.ensures
