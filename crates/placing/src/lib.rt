@@ -78,25 +78,21 @@ fn put_blocks(img: &mut [u8], p: Site, bytes: &[u8])
 // ---- all of it
 
 // The head of the run, in an image of `len` bytes, with its end as it is stored.
-fn head_of(len: u64, p: Site, kind: u8, bytes: u64, stamp: u64) -> Head
+fn head_of(len: u64, p: Site, new: New) -> Head
     requires { (len ≤ 16_777_216) × (p.new.index_bytes ≤ len) × (slot_bytes * p.slot.0 ≤ p.new.index_bytes) }
-    ensures { result ≡ site_head len p kind bytes stamp }
+    ensures { result ≡ site_head len p (new_of new.entry.made) new.entry.stamp }
 {
     let index = units::index_start(len, p.new.index_bytes);
-    let edition = p.new.edition;
-    let slot = p.slot;
-    let start = p.start;
-    let end = edition.stored_end(p.end);
     Head {
-        edition,
-        at: slot.offset(index),
-        kind,
-        slot,
+        edition: p.new.edition,
+        at: p.slot.offset(index),
+        kind: new.made.kind(),
+        slot: p.slot,
         slots: p.slots,
-        stamp,
-        start,
-        end,
-        length: bytes,
+        stamp: new.stamp,
+        start: p.start,
+        end: p.new.edition.stored_end(p.end),
+        length: new.made.bytes().len() as u64,
     }
 }
 
@@ -105,16 +101,9 @@ pub fn place(img: &mut [u8], p: Site, new: New)
     requires { NewIn (length img.old) (new_of new.made) new.path.now (site_view p) }
     ensures { img.new ≡ created img.old (site_view p) (new_of new.entry.made) new.entry.path.now (signed_of new.entry.stamp) }
 {
-    let bytes = new.made.bytes();
-    let h = head_of(
-        img.len() as u64,
-        p,
-        new.made.kind(),
-        bytes.len() as u64,
-        new.stamp,
-    );
+    let h = head_of(img.len() as u64, p, new);
     super_block::put_sizes(img, p.new);
     ends::move_marker(img, p.old, p.new);
     runs::put_run(img, h, new.path);
-    put_blocks(img, p, bytes);
+    put_blocks(img, p, new.made.bytes());
 }
