@@ -1,7 +1,8 @@
 -- The test before the walk, read at the path's last place; a name that it passes over is not the path.
 use Prim.Native.Nat.{ℕ, zero, suc, ◌+◌, ◌≤◌, ◌<◌}
-use Rattle.std.specs.Prelude.{◌≡◌, refl, Bool, true, false, length, get_or, eqb}
-use Rattle.std.proofs.Common.{sym, ◌∙◌, drop_of_length-le, drop-cons}
+use Rattle.std.specs.Prelude.{◌≡◌, ◌++◌, refl, Bool, true, false, length, get_or, eqb}
+use Rattle.std.proofs.Common.{sym, ap, length-append, ◌∙◌, drop_of_length-le, drop-cons}
+use Rattle.std.proofs.Math.Seq.{get_or-append_seam}
 use mathlib.Core.List.{List, [], ◌∷◌}
 use native.Mathlib.Omega.{arith}
 use borrow.Author.Tests.{eq-eqb, eqb-true}
@@ -41,6 +42,15 @@ module _ (name path : List ℕ) where
       → (eqb (get_or name i 0) (get_or path i 0) ≡ last_alike name path) × (1 ≡ length (at_last path name))
   unfolding last_alike eq_list
   tested i e h = rw (at_last_lem path name i e (omega arith), at_last_lem path path i e (omega arith)) (sym (and_last _), refl)
+
+-- the path is some bytes and its last
+pub tested-parts : (name path before : List ℕ) (last : ℕ) → path ≡ before ++ (last ∷ []) → length path ≤ length name
+    → (eqb (get_or name (length before) 0) last ≡ last_alike name path) × (1 ≡ length (at_last path name))
+tested-parts name path before last e h =
+    let n = length before in
+    let is : get_or path n 0 ≡ last = ap (λ (xs : List ℕ). get_or xs n 0) e ∙ get_or-append_seam before last [] 0 in
+    let t = tested name path n (omega (arith, ap length e, length-append before (last ∷ []))) h in
+    (ap (eqb (get_or name n 0)) (sym is) ∙ t.0, t.1)
 
 -- the run has no such place
 out-last : (name path : List ℕ) → length name < length path → last_alike name path ≡ false

@@ -28,15 +28,14 @@ fn compare_last(name: &[u8], path: &[u8]) -> Compared
     ensures same_value { result.same ≡ last_alike name.now path.now }
     ensures counted { result.looked ≡ length (at_last path.now name.now) }
 {
-    if path.len() < 1 {
+    let Some((last, before)) = path.split_last() else {
         return Compared {
             same: true,
             looked: 0,
         };
-    }
-    let last = path.len() - 1;
+    };
     Compared {
-        same: name[last] == path[last],
+        same: name[before.len()] == *last,
         looked: 1,
     }
 }
@@ -48,25 +47,23 @@ fn goes_on(b: u8, p: u8) -> bool
     b == p && b != 0
 }
 
-// The walk through both, up to the first difference.
+// The walk through both, up to the first difference. The name is cut to the path's length first: the walk has one end to look for.
 fn walk(name: &[u8], path: &[u8], end: u8) -> Compared
     requires { length path.now ≤ length name.now }
     ensures same_value { result.same ≡ is_then end name.now path.now }
     ensures counted { result.looked ≡ walked name.now path.now }
 {
-    let mut i: usize = 0;
-    while i < path.len() {
-        if !goes_on(name[i], path[i]) {
-            return apart(i + 1);
-        }
-        i += 1;
+    let (front, rest) = name.split_at(path.len());
+    let stop = front.iter().zip(path).position(|(b, p)| !goes_on(*b, *p));
+    if let Some(i) = stop {
+        return apart(i + 1);
     }
-    if i == name.len() {
-        return apart(i);
-    }
-    Compared {
-        same: name[i] == end,
-        looked: i + 1,
+    match rest.first() {
+        Some(b) => Compared {
+            same: *b == end,
+            looked: path.len() + 1,
+        },
+        None => apart(path.len()),
     }
 }
 

@@ -1,15 +1,12 @@
-use Prim.Native.Nat.{◌-◌}
-use lib.ListN.{length}
-use native.Mathlib.Omega.{arith}
-use Rattle.comparing.specs.Last.{untested, tested}
+use Rattle.comparing.specs.Last.{untested, tested-parts}
 use Rattle.comparing.proofs.compare_last.Goals as goal
 
-pub returns-then-path-lt1 : goal.returns-then-path-lt1
-returns-then-path-lt1 c =
-    let t = untested c.args.name.now c.args.path.now (omega arith) in
+pub returns-in_default : goal.returns-in_default
+returns-in_default c =
+    let t = untested c.args.name.now c.args.path.now c.in_default.ensures.cases in
     record { same_value = t.0; counted = t.1 }
 
 pub returns : goal.returns
 returns c =
-    let t = tested c.args.name.now c.args.path.now (length c.args.path.now - 1) (omega arith) c.requires in
+    let t = tested-parts c.args.name.now c.args.path.now c.in-Some.before.now c.in-Some.last.now c.in-Some.ensures.cases.0 c.requires in
     record { same_value = t.0; counted = t.1 }
