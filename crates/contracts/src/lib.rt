@@ -3,7 +3,7 @@
 #![tactic(auto)]
 
 #[repr(C)]
-#[derive(Clone, Copy)]
+#[derive(Clone, Copy, Debug, Default, PartialEq, Eq)]
 pub struct Volume {
     pub refusal: u32,
     pub version: u32,
@@ -19,7 +19,7 @@ pub struct Volume {
 }
 
 #[repr(C)]
-#[derive(Clone, Copy)]
+#[derive(Clone, Copy, Debug, Default, PartialEq, Eq)]
 pub struct Entry {
     pub refusal: u32,
     pub kind: u32,
@@ -31,7 +31,7 @@ pub struct Entry {
 }
 
 #[repr(C)]
-#[derive(Clone, Copy)]
+#[derive(Clone, Copy, Debug, Default, PartialEq, Eq)]
 pub struct Listed {
     pub refusal: u32,
     pub kind: u32,
@@ -44,14 +44,14 @@ pub struct Listed {
 }
 
 #[repr(C)]
-#[derive(Clone, Copy)]
+#[derive(Clone, Copy, Debug, Default, PartialEq, Eq)]
 pub struct Content {
     pub refusal: u32,
     pub length: u64,
 }
 
 #[repr(C)]
-#[derive(Clone, Copy)]
+#[derive(Clone, Copy, Debug, Default, PartialEq, Eq)]
 pub struct Records {
     pub refusal: u32,
     pub count: u64,

@@ -8,7 +8,9 @@ ghost use Rattle.rules.specs.Comparing.{find_looked};
 ghost use Rattle.rules.specs.Refusals.{entries};
 ghost use Rattle.rules.specs.Outcome.{no_volume, no_entry, none_listed, numbers_of};
 ghost use Rattle.rules.specs.Outcome.Laws.{denied};
-ghost use Rattle.rules.specs.Reading.{volume_numbers};
+ghost use Rattle.rules.specs.Reading.{volume_numbers, open_of, find_of, list_of, read_of};
+ghost use Rattle.refusals.specs.View.{number_of};
+ghost use Rattle.reading.specs.Told.{told_as};
 ghost use Rattle.rules.specs.Index.{volume_name, run_type};
 ghost use Rattle.rules.specs.Reading.Laws.{list_entry};
 ghost use Rattle.contracts.specs.Promises.{OpensVolume, Finds, Lists, Reads, volume_view, volume_answer, entry_view, entry_answer, content_view, listed_view, listed_answer};
@@ -18,31 +20,34 @@ ghost use Rattle.slots.specs.View.{head_view, HeadIn};
 ghost use Rattle.paths.specs.View.{Searched, FoundOf};
 ghost use Rattle.judging.specs.View.{Opened, volume_of};
 ghost use Rattle.reading.specs.Found.{FileIn, read_entry};
+ghost use Rattle.reading.specs.Looked.{LooksUp, PutFront};
 
 use contracts::{Content, Entry, Listed, Volume};
 use geometry::Geometry;
-use judging::Judged;
-use paths::{Found, Hit, Search};
+use paths::Found;
+use refusals::Refusal;
 use slots::Head;
 use units::Slot;
 
+// All of src at the start of out, if it fits: how many bytes that are.
+fn put_front(out: &mut [u8], src: &[u8]) -> Option<usize>
+    ensures { PutFront out.old src.now out.new result }
+{
+    if out.len() < src.len() {
+        return None;
+    }
+    copying::copy_into(out, src);
+    Some(src.len())
+}
+
 // ---- open
 
-fn no_volume(n: u32) -> Volume
-    ensures { (s out : List ℕ) → volume_view s out result ≡ denied no_volume s out n }
+fn no_volume(r: Refusal) -> Volume
+    ensures { (s out : List ℕ) → volume_view s out result ≡ denied no_volume s out (number_of r) }
 {
     Volume {
-        refusal: n,
-        version: 0,
-        edition: 0,
-        total: 0,
-        reserved: 0,
-        block_length: 0,
-        data_blocks: 0,
-        index_bytes: 0,
-        stamp: 0,
-        volume_stamp: 0,
-        name_length: 0,
+        refusal: u32::from(r),
+        ..Volume::default()
     }
 }
 
@@ -67,25 +72,21 @@ fn volume_numbers(img: &[u8], g: Geometry, n: usize) -> Volume
     }
 }
 
-fn open_volume(img: &[u8], g: Geometry, out: &mut [u8]) -> Volume
-    requires { Opened img.now g }
-    ensures { OpensVolume img.now out.old result out.new }
+fn open_volume(img: &[u8], out: &mut [u8]) -> Result<Volume, Refusal>
+    ensures { told_as volume_view no_volume img.now out.new result ≡ open_of img.now out.old }
 {
+    let g = judging::judge(img)?;
     let name = ends::volume_name(img);
-    let n = name.len();
-    if out.len() < n {
-        return no_volume(18);
-    }
-    copying::copy_into(out, name);
-    volume_numbers(img, g, n)
+    let n = put_front(out, name).ok_or(Refusal::TooShort)?;
+    Ok(volume_numbers(img, g, n))
 }
 
 pub fn open(img: &[u8], out: &mut [u8]) -> Volume
     ensures { OpensVolume img.now out.old result out.new }
 {
-    match judging::judge(img) {
-        Judged::Refused(n) => no_volume(n as u32),
-        Judged::Good(g) => open_volume(img, g, out),
+    match open_volume(img, out) {
+        Ok(volume) => volume,
+        Err(e) => no_volume(e),
     }
 }
 
@@ -103,26 +104,23 @@ fn search(img: &[u8], g: Geometry, path: &[u8]) -> Found
     paths::find(img, &sums, from, path)
 }
 
-// The live entry of the path.
-fn look_up(img: &[u8], g: Geometry, path: &[u8]) -> Search
+// The live entry of a path that is allowed.
+fn look_up(img: &[u8], g: Geometry, path: &[u8]) -> Result<Head, Refusal>
     requires { Opened img.now g }
-    ensures searched { Searched img.now (lookup path.now (entries (volume_of img.now (geometry_view g)))) result }
-    ensures edition { FoundOf g.edition result }
+    ensures { LooksUp img.now g path.now result }
 {
-    search(img, g, path).entry
+    if !names::path_good(path) {
+        return Err(Refusal::Name);
+    }
+    search(img, g, path).entry.ok_or(Refusal::Absent)
 }
 
-fn no_entry(n: u32) -> Entry
-    ensures { (s : List ℕ) → entry_view s result ≡ denied no_entry s [] n }
+fn no_entry(r: Refusal) -> Entry
+    ensures { (s : List ℕ) → entry_view s result ≡ denied no_entry s [] (number_of r) }
 {
     Entry {
-        refusal: n,
-        kind: 0,
-        slot: 0,
-        start: 0,
-        end: 0,
-        length: 0,
-        stamp: 0,
+        refusal: u32::from(r),
+        ..Entry::default()
     }
 }
 
@@ -141,95 +139,79 @@ fn entry_numbers(h: Head) -> Entry
     }
 }
 
-fn find_entry(img: &[u8], g: Geometry, path: &[u8]) -> Entry
-    requires { Opened img.now g }
-    ensures { Finds img.now path.now result }
+fn find_entry(img: &[u8], path: &[u8]) -> Result<Entry, Refusal>
+    ensures { told_as (λ s _. entry_view s) no_entry img.now [] result ≡ find_of img.now path.now }
 {
-    if !names::path_good(path) {
-        return no_entry(10);
-    }
-    match look_up(img, g, path) {
-        Search::Nothing => no_entry(11),
-        Search::Entry(h) => entry_numbers(h),
-    }
+    let g = judging::judge(img)?;
+    let h = look_up(img, g, path)?;
+    Ok(entry_numbers(h))
 }
 
 pub fn find(img: &[u8], path: &[u8]) -> Entry
     ensures { Finds img.now path.now result }
 {
-    match judging::judge(img) {
-        Judged::Refused(n) => no_entry(n as u32),
-        Judged::Good(g) => find_entry(img, g, path),
+    match find_entry(img, path) {
+        Ok(entry) => entry,
+        Err(e) => no_entry(e),
     }
 }
 
 // ---- read
 
-fn no_content(n: u32) -> Content
-    ensures { (s out : List ℕ) → content_view s out result ≡ denied 0 s out n }
+fn no_content(r: Refusal) -> Content
+    ensures { (s out : List ℕ) → content_view s out result ≡ denied 0 s out (number_of r) }
 {
     Content {
-        refusal: n,
+        refusal: u32::from(r),
         length: 0,
     }
 }
 
 // The bytes of a file, at the start of out.
-fn read_file(img: &[u8], g: Geometry, h: Head, out: &mut [u8]) -> Content
+fn read_file(img: &[u8], g: Geometry, h: Head, out: &mut [u8]) -> Result<Content, Refusal>
     requires { Opened img.now g × FileIn img.now g h }
-    ensures { content_view img.now out.new result ≡ read_entry img.now (geometry_view g) (head_view img.now h) out.old }
+    ensures { told_as content_view 0 img.now out.new result ≡ read_entry img.now (geometry_view g) (head_view img.now h) out.old }
 {
     if h.kind != slots::FILE {
-        return no_content(17);
+        return Err(Refusal::NotAFile);
     }
     let n = h.length;
     if (out.len() as u64) < n {
-        return no_content(18);
+        return Err(Refusal::TooShort);
     }
     let at = h.start.offset(g.block_length());
     copying::copy_out(out, img, at, n as usize);
-    Content {
+    Ok(Content {
         refusal: 0,
         length: n,
-    }
+    })
 }
 
-fn read_entry(img: &[u8], g: Geometry, path: &[u8], out: &mut [u8]) -> Content
-    requires { Opened img.now g }
-    ensures { Reads img.now path.now out.old result out.new }
+fn read_entry(img: &[u8], path: &[u8], out: &mut [u8]) -> Result<Content, Refusal>
+    ensures { told_as content_view 0 img.now out.new result ≡ read_of img.now path.now out.old }
 {
-    if !names::path_good(path) {
-        return no_content(10);
-    }
-    match look_up(img, g, path) {
-        Search::Nothing => no_content(11),
-        Search::Entry(h) => read_file(img, g, h, out),
-    }
+    let g = judging::judge(img)?;
+    let h = look_up(img, g, path)?;
+    read_file(img, g, h, out)
 }
 
 pub fn read(img: &[u8], path: &[u8], out: &mut [u8]) -> Content
     ensures { Reads img.now path.now out.old result out.new }
 {
-    match judging::judge(img) {
-        Judged::Refused(n) => no_content(n as u32),
-        Judged::Good(g) => read_entry(img, g, path, out),
+    match read_entry(img, path, out) {
+        Ok(content) => content,
+        Err(e) => no_content(e),
     }
 }
 
 // ---- list
 
-fn none_listed(n: u32) -> Listed
-    ensures { (s out : List ℕ) → listed_view s out result ≡ denied none_listed s out n }
+fn none_listed(r: Refusal) -> Listed
+    ensures { (s out : List ℕ) → listed_view s out result ≡ denied none_listed s out (number_of r) }
 {
     Listed {
-        refusal: n,
-        kind: 0,
-        slot: 0,
-        start: 0,
-        end: 0,
-        length: 0,
-        stamp: 0,
-        path_length: 0,
+        refusal: u32::from(r),
+        ..Listed::default()
     }
 }
 
@@ -250,36 +232,33 @@ fn listed_numbers(h: Head, n: usize) -> Listed
 }
 
 // The entry's numbers, and its path at the start of out.
-fn list_entry(img: &[u8], h: Head, out: &mut [u8]) -> Listed
+fn list_entry(img: &[u8], h: Head, out: &mut [u8]) -> Result<Listed, Refusal>
     requires { HeadIn img.now h × (run_type h.kind ≡ true) }
-    ensures { listed_view img.now out.new result ≡ list_entry (edition_view h.edition) img.now (head_view img.now h) out.old }
+    ensures { told_as listed_view none_listed img.now out.new result ≡ list_entry (edition_view h.edition) img.now (head_view img.now h) out.old }
 {
     let path = slots::path_of(img, h);
-    let n = path.len();
-    if out.len() < n {
-        return none_listed(18);
-    }
-    copying::copy_into(out, path);
-    listed_numbers(h, n)
+    let n = put_front(out, path).ok_or(Refusal::TooShort)?;
+    Ok(listed_numbers(h, n))
 }
 
-fn list_from(img: &[u8], g: Geometry, slot: Slot, out: &mut [u8]) -> Listed
-    requires { Opened img.now g }
-    ensures { Lists img.now slot.0 out.old result out.new }
+// Where no entry is left, all numbers are 0, and that is no refusal.
+fn list_from(img: &[u8], slot: Slot, out: &mut [u8]) -> Result<Listed, Refusal>
+    ensures { told_as listed_view none_listed img.now out.new result ≡ list_of img.now slot.0 out.old }
 {
+    let g = judging::judge(img)?;
     let mut sums = [0u8; sums::ROOM];
     let from = super_block::first_slot(img, g, &mut sums);
-    match paths::next_live(img, &sums, from, slot) {
-        Hit::Nothing => none_listed(0),
-        Hit::Entry(h, _) => list_entry(img, h, out),
-    }
+    let Some((h, _)) = paths::next_live(img, &sums, from, slot) else {
+        return Ok(Listed::default());
+    };
+    list_entry(img, h, out)
 }
 
 pub fn list(img: &[u8], slot: u64, out: &mut [u8]) -> Listed
     ensures { Lists img.now slot out.old result out.new }
 {
-    match judging::judge(img) {
-        Judged::Refused(n) => none_listed(n as u32),
-        Judged::Good(g) => list_from(img, g, Slot::at(slot), out),
+    match list_from(img, Slot::at(slot), out) {
+        Ok(listed) => listed,
+        Err(e) => none_listed(e),
     }
 }

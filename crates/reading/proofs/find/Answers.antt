@@ -1,10 +1,8 @@
-use mathlib.Core.Path.{sym, ◌∙◌}
-use Rattle.rules.specs.Reading.Laws.{find-refused}
-use Rattle.judging.specs.View.{refused_says, good-says}
+use mathlib.Core.Path.{◌∙◌}
 use Rattle.reading.proofs.find.Goals as goal
 
-pub find_entry-requires : goal.find_entry-requires
-find_entry-requires c = good-says _ _ c.judge.ensures _ c.in-Good.is
+pub returns-in-Ok : goal.returns-in-Ok
+returns-in-Ok c = rw c.in-Ok.is at c.find_entry.ensures
 
-pub returns-in-Refused : goal.returns-in-Refused
-returns-in-Refused c = c.no_entry.ensures _ ∙ sym (find-refused _ _ (refused_says _ _ c.judge.ensures _ c.in-Refused.is) _)
+pub returns-in-Err : goal.returns-in-Err
+returns-in-Err c = c.no_entry.ensures _ ∙ rw c.in-Err.is at c.find_entry.ensures

@@ -1,31 +1,48 @@
 use mathlib.Core.Path.{◌≡◌, sym, ap, ◌∙◌}
-use mathlib.Core.Bool.{true}
-use Rattle.rules.specs.Names.{path_good}
-use Rattle.rules.specs.Outcome.{numbers_of}
-use Rattle.rules.specs.Reading.Laws.{find-name, find_none, find-done}
+use Rattle.std.specs.Prelude.{ℕ, List, [], ◌⊎◌, Err}
+use Rattle.std.proofs.Common.{inl, inr}
+use Rattle.std.proofs.lemmas.Result.{err_from_is_err_and}
+use Rattle.rules.specs.Outcome.{numbers_of, no_entry}
+use Rattle.rules.specs.Reading.{find_of}
+use Rattle.rules.specs.Reading.Laws.{find-refused, find-name, find_none, find-done}
+use Rattle.refusals.specs.declared.Refusal.{Refusal}
 use Rattle.editions.specs.View.{edition_view}
 use Rattle.editions.specs.declared.Edition.{Edition as Held}
 use Rattle.slots.specs.View.{head_view}
-use Rattle.paths.specs.View.{searched-nothing, searched-entry, found_of}
+use Rattle.geometry.specs.declared.Geometry.{Geometry}
+use Rattle.judging.specs.View.{Opened, refused_says, good-says}
+use Rattle.contracts.specs.Promises.{entry_view}
 use Rattle.contracts.specs.Promises.Laws.{entry-outcome}
+use Rattle.reading.specs.Looked.{LooksUp, Unnamed, Missing}
+use Rattle.reading.specs.Told.{told_as}
 use Rattle.reading.proofs.find_entry.Goals as goal
-use Rattle.reading.proofs.find_entry.Goals.{Else-not-path_good}
+use Rattle.reading.proofs.find_entry.Goals.{In_ok-g}
 
-good : (c : Else-not-path_good) → path_good c.args.path.now ≡ true
-good c = sym c.path_good.ensures ∙ c.if-not-path_good.false
+-- a path that is not allowed, or not live
+refused-by : (s : List ℕ) (g : Geometry) (path : List ℕ) (e : Refusal) → Opened s g → Unnamed path e ⊎ Missing s g path e
+    → told_as (λ s _. entry_view s) no_entry s [] (Err e) ≡ find_of s path
+refused-by s g path e o (inl u) = rw u.why (sym (find-name _ _ o _ u.unnamed))
+refused-by s g path e o (inr m) = rw m.why (sym (find_none _ _ o _ m.named m.none_found))
 
-pub returns-then-not-path_good : goal.returns-then-not-path_good
-returns-then-not-path_good c = c.no_entry.ensures _ ∙ sym (find-name _ _ c.requires _ (sym c.path_good.ensures ∙ c.if-not-path_good.true))
+opened : (c : In_ok-g) → Opened c.args.img.now c.in_ok-g.g
+opened c = good-says _ _ c.judge.ensures _ c.in_ok-g.was
+
+pub returns-in_err-g : goal.returns-in_err-g
+returns-in_err-g c =
+    let p = err_from_is_err_and c.from_residual.result c.from_residual.ensures.1 in
+    rw (p.1, p.2) (sym (find-refused _ _ (refused_says _ _ c.judge.ensures _ c.in_err-g.was) _))
 
 pub look_up-requires : goal.look_up-requires
-look_up-requires c = c.requires
+look_up-requires c = opened (goal.at.look_up-requires c).In_ok-g
 
-pub returns-in-Nothing : goal.returns-in-Nothing
-returns-in-Nothing c =
-    c.no_entry-in-Nothing.ensures _ ∙ sym (find_none _ _ c.requires _ (good (goal.at.returns-in-Nothing c).Else-not-path_good) (searched-nothing _ _ _ c.look_up.ensures.searched c.in-Nothing.is))
+pub returns-in_err-h : goal.returns-in_err-h
+unfolding LooksUp
+returns-in_err-h c =
+    let p = err_from_is_err_and c.from_residual-in_err-h.result c.from_residual-in_err-h.ensures.1 in
+    rw (p.1, p.2) (refused-by _ _ _ _ (opened (goal.at.returns-in_err-h c).In_ok-g) (rw c.in_err-h.was at c.look_up.ensures))
 
-pub returns-in-Entry : goal.returns-in-Entry
-returns-in-Entry c =
-    let f = searched-entry _ _ _ c.look_up.ensures.searched _ c.in-Entry.is in
-    let own = found_of _ _ c.look_up.ensures.edition _ c.in-Entry.is in
-    entry-outcome _ _ _ c.entry_numbers.ensures.0 (c.entry_numbers.ensures.1 c.args.img.now ∙ ap (λ (ed : Held). numbers_of (edition_view ed) (head_view c.args.img.now c.in-Entry.h)) own) ∙ sym (find-done _ _ c.requires _ _ (good (goal.at.returns-in-Entry c).Else-not-path_good) f.0)
+pub returns : goal.returns
+unfolding LooksUp
+returns c =
+    let f = rw c.in_ok-h.was at c.look_up.ensures in
+    entry-outcome _ _ _ c.entry_numbers.ensures.0 (c.entry_numbers.ensures.1 c.args.img.now ∙ ap (λ (ed : Held). numbers_of (edition_view ed) (head_view c.args.img.now c.in_ok-h.h)) f.own) ∙ sym (find-done _ _ (opened (goal.at.returns c).In_ok-g) _ _ f.named f.found)

@@ -1,7 +1,6 @@
 use Rattle.rules.specs.Outcome.{no_entry}
-use mathlib.Core.Path.{refl}
 use Rattle.reading.proofs.no_entry.Goals as goal
 
 pub returns : goal.returns
 unfolding no_entry
-returns c = λ s. refl
+returns c s = let h = c.default.ensures in rw (c.from.ensures, h.1.0, h.1.1.0, h.1.1.1.0, h.1.1.1.1.0, h.1.1.1.1.1.0, h.1.1.1.1.1.1)

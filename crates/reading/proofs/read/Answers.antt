@@ -1,10 +1,8 @@
-use mathlib.Core.Path.{sym, ◌∙◌}
-use Rattle.rules.specs.Reading.Laws.{read-refused}
-use Rattle.judging.specs.View.{refused_says, good-says}
+use mathlib.Core.Path.{◌∙◌}
 use Rattle.reading.proofs.read.Goals as goal
 
-pub read_entry-requires : goal.read_entry-requires
-read_entry-requires c = good-says _ _ c.judge.ensures _ c.in-Good.is
+pub returns-in-Ok : goal.returns-in-Ok
+returns-in-Ok c = rw c.in-Ok.is at c.read_entry.ensures
 
-pub returns-in-Refused : goal.returns-in-Refused
-returns-in-Refused c = c.no_content.ensures _ _ ∙ sym (read-refused _ _ (refused_says _ _ c.judge.ensures _ c.in-Refused.is) _ _)
+pub returns-in-Err : goal.returns-in-Err
+returns-in-Err c = c.no_content.ensures _ _ ∙ rw c.in-Err.is at c.read_entry.ensures

@@ -23,11 +23,11 @@ place c = c.offset-at.ensures.0 ∙ ap (λ (l : ℕ). c.args.h.start.0 * l) c.bl
 
 pub returns-then-h-ne-FILE : goal.returns-then-h-ne-FILE
 unfolding head_view
-returns-then-h-ne-FILE c = c.no_content.ensures _ _ ∙ sym (entry-directory _ _ (head_view _ c.args.h) _ c.if-h-ne-FILE.true)
+returns-then-h-ne-FILE c = sym (entry-directory _ _ (head_view _ c.args.h) _ c.if-h-ne-FILE.true)
 
 pub returns-then-out-n : goal.returns-then-out-n
 unfolding head_view
-returns-then-out-n c = c.no_content-then-out-n.ensures _ _ ∙ sym (entry-short _ _ (head_view _ c.args.h) _ c.if-h-ne-FILE.false c.if-out-n.true)
+returns-then-out-n c = sym (entry-short _ _ (head_view _ c.args.h) _ c.if-h-ne-FILE.false c.if-out-n.true)
 
 pub block_length-requires : goal.block_length-requires
 block_length-requires c = (opened-super _ _ c.requires.0).good.field-high
