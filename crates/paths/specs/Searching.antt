@@ -16,6 +16,7 @@ use Rattle.slots.specs.declared.Head.{Head}
 use Rattle.slots.specs.declared.Spot.{Spot}
 use Rattle.slots.specs.View.{head_view, spot_view, SpotIn, name-short, head-spot}
 use Rattle.index.specs.declared.Cursor.{Cursor}
+use Rattle.index.specs.declared.Ahead.{Ahead}
 use Rattle.index.specs.View.{Behind, behind-itself, behind-on}
 use Rattle.index.specs.Steps.{Walks, entries_from, Arrives, Onward, behind-onward, behind-arrives, arrives-before}
 use Rattle.paths.specs.declared.Sought.{Sought}
@@ -182,20 +183,20 @@ pub record Strikes (s : List ℕ) (what : Sought) (p : List ℕ) (d : Cursor) (n
 
 unfoldable pub Goes : List ℕ → Sought → List ℕ → Cursor → ℕ → Way → Type 0
 Goes s what p d n (On d' n') = Over s what p d n d' n'
-Goes s what p d n (At e rest n') = Strikes s what p d n e rest n'
+Goes s what p d n (At a n') = Strikes s what p d n a.here a.rest n'
 
 unfoldable pub Ends : Way → Type 0
 Ends (On d n) = d.left ≡ 0
-Ends (At e rest n) = Unit {0}
+Ends (At a n) = Unit {0}
 
 module _ (s : List ℕ) (what : Sought) (p : List ℕ) (d : Cursor) (n : ℕ) (r : Way) (told : Goes s what p d n r) where
   pub goes_on : (d' : Cursor) (n' : ℕ) → r ≡ On d' n' → Over s what p d n d' n'
   unfolding Goes
   goes_on d' n' e = rw e at told
 
-  pub goes_at : (e : Spot) (rest : Cursor) (n' : ℕ) → r ≡ At e rest n' → Strikes s what p d n e rest n'
+  pub goes_at : (a : Ahead) (n' : ℕ) → r ≡ At a n' → Strikes s what p d n a.here a.rest n'
   unfolding Goes
-  goes_at e rest n' q = rw q at told
+  goes_at a n' q = rw q at told
 
 pub ends_on : (r : Way) → Ends r → (d : Cursor) (n : ℕ) → r ≡ On d n → d.left ≡ 0
 unfolding Ends
@@ -216,3 +217,9 @@ strikes s what p d n of d' n' over e rest step m tried t =
 pub strikes-over : (s : List ℕ) (what : Sought) (p : List ℕ) (d : Cursor) (n : ℕ) (d' : Cursor) (n' : ℕ) → Over s what p d n d' n' → (e : Spot) (rest : Cursor) (n'' : ℕ) → Strikes s what p d' n' e rest n''
     → Strikes s what p d n e rest n''
 strikes-over s what p d n d' n' over e rest n'' k = record { spot = k.spot; comes = λ c g. k.comes c (over.going c g) }
+
+-- a search that goes on from where another came to
+pub goes-over : (s : List ℕ) (what : Sought) (p : List ℕ) (d : Cursor) (n : ℕ) (d' : Cursor) (n' : ℕ) → Over s what p d n d' n' → (r : Way) → Goes s what p d' n' r → Goes s what p d n r
+unfolding Goes
+goes-over s what p d n d' n' over (On d'' n'') told = over-over s what p d n d' n' d'' n'' over told
+goes-over s what p d n d' n' over (At a n'') told = strikes-over s what p d n d' n' over a.here a.rest n'' told

@@ -16,14 +16,15 @@ ghost use Rattle.paths.specs.Searching.{FewLooked, Goes, Ends};
 ghost use Rattle.paths.specs.View.{Hits, HitOf, Searched, FoundOf, passes, sought_kind, compares, OfRuns, name_of, spot_looked, LookedFrom};
 
 use comparing::{Compared, apart, compare};
-use index::{Cursor, further, next_spot, single};
+use index::{Ahead, Cursor, further, next_spot, single};
 use slots::{Head, Spot};
 use units::Slot;
 
 // ---- one entry
 
 // What an entry is looked for by, beside a path: its type is one of the two, and its name is the path and then this byte, zero for the path itself,
-// a slash for what lies below it. Plain numbers, since a search asks them of every entry.
+// a slash for what lies below it.
+// Kept: plain numbers and no enum, which a search would match on at every entry: a jump for each, so that find misses its bar of speed.
 #[derive(Clone, Copy)]
 struct Sought {
     one: u8,
@@ -59,10 +60,7 @@ const BELOW: Sought = Sought {
 fn is_sought(what: Sought, kind: u8) -> bool
     ensures { result ≡ sought_kind what kind }
 {
-    if kind == what.one {
-        return true;
-    }
-    kind == what.other
+    kind == what.one || kind == what.other
 }
 
 // The name of the run's entry, compared with the path and the byte `end` behind it.
@@ -93,7 +91,7 @@ fn passes(img: &[u8], e: Spot, what: Sought, path: &[u8]) -> Compared
 #[derive(Clone, Copy)]
 enum Way {
     On(Cursor, usize),
-    At(Spot, Cursor, usize),
+    At(Ahead, usize),
 }
 
 // A search taken on over the slots that stand by themselves, as most do, up to one with more slots behind it. The loop does not wait for a count to
@@ -105,19 +103,16 @@ fn pass_singles(img: &[u8], from: Cursor, what: Sought, path: &[u8], looked: usi
     let mut c = from;
     let mut n = looked;
     while 0 < c.left {
-        let at = c.at;
-        if !slots::is_single(img, c.edition, at) {
+        if !slots::is_single(img, c.edition, c.at) {
             return Way::On(c, n);
         }
         let next = single(img, c);
-        let here = next.here;
-        let rest = next.rest;
-        let tried = passes(img, here, what, path);
+        let tried = passes(img, next.here, what, path);
         n += tried.looked;
         if tried.same {
-            return Way::At(here, rest, n);
+            return Way::At(next, n);
         }
-        c = rest;
+        c = next.rest;
     }
     Way::On(c, n)
 }
@@ -131,23 +126,20 @@ fn pass_over(img: &[u8], sums: &[u8], from: Cursor, what: Sought, path: &[u8]) -
     let mut c = from;
     let mut n: usize = 0;
     loop {
-        match pass_singles(img, c, what, path, n) {
-            Way::At(e, rest, looked) => return Way::At(e, rest, looked),
-            Way::On(at, looked) => {
-                if at.left == 0 {
-                    return Way::On(at, looked);
-                }
-                let next = further(img, sums, at);
-                let here = next.here;
-                let rest = next.rest;
-                let tried = passes(img, here, what, path);
-                n = looked + tried.looked;
-                if tried.same {
-                    return Way::At(here, rest, n);
-                }
-                c = rest;
-            }
+        let way = pass_singles(img, c, what, path, n);
+        let Way::On(at, looked) = way else {
+            return way;
+        };
+        if at.left == 0 {
+            return way;
         }
+        let next = further(img, sums, at);
+        let tried = passes(img, next.here, what, path);
+        n = looked + tried.looked;
+        if tried.same {
+            return Way::At(next, n);
+        }
+        c = next.rest;
     }
 }
 
@@ -173,10 +165,11 @@ fn next_hit(img: &[u8], sums: &[u8], from: Cursor, what: Sought, path: &[u8]) ->
 {
     match pass_over(img, sums, from, what, path) {
         Way::On(_, looked) => Met { hit: None, looked },
-        Way::At(e, rest, looked) => {
+        Way::At(next, looked) => {
+            let e = next.here;
             let h = slots::head_at(img, e.edition, e.at, e.slot);
             Met {
-                hit: Some((h, rest)),
+                hit: Some((h, next.rest)),
                 looked,
             }
         }
@@ -229,8 +222,7 @@ pub fn first_deleted(img: &[u8], sums: &[u8], from: Cursor, path: &[u8]) -> Opti
     ensures hits { Hits img.now (deleted_at path.now) (entries_from img.now from) result }
     ensures place { HitOf from result }
 {
-    let ed = from.edition;
-    if !ed.keeps_deleted() {
+    if !from.edition.keeps_deleted() {
         return None;
     }
     next_hit(img, sums, from, DELETED, path).hit

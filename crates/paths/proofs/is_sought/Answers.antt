@@ -6,6 +6,6 @@ pub returns-then-kind-what : goal.returns-then-kind-what
 unfolding sought_kind
 returns-then-kind-what c = rw (eq-eqb _ _ c.if-kind-what.true)
 
-pub returns : goal.returns
+pub returns-else-kind-what : goal.returns-else-kind-what
 unfolding sought_kind
-returns c = rw (ne_eqb _ _ c.if-kind-what.false)
+returns-else-kind-what c = rw (ne_eqb _ _ c.if-kind-what.false)

@@ -5,8 +5,8 @@ use Rattle.paths.proofs.next_hit.Goals as goal
 use Rattle.paths.proofs.next_hit.Goals.{In-At}
 
 strikes : (c : In-At) → let a = c.args in
-    Strikes a.img.now a.what a.path.now a.from 0 c.in-At.e c.in-At.rest c.in-At.looked
-strikes c = goes_at _ _ _ _ _ _ c.pass_over.ensures.goes _ _ _ c.in-At.is
+    Strikes a.img.now a.what a.path.now a.from 0 c.in-At.next.here c.in-At.next.rest c.in-At.looked
+strikes c = goes_at _ _ _ _ _ _ c.pass_over.ensures.goes _ _ c.in-At.is
 
 pub head_at-h-requires : goal.head_at-h-requires
 head_at-h-requires c = let e = (strikes (goal.at.head_at-h-requires c).In-At).spot in omega (arith, e.fits, e.low)

@@ -4,31 +4,31 @@ use Rattle.editions.specs.View.{edition_view}
 use Rattle.index.specs.View.{sums-behind}
 use Rattle.paths.specs.View.{OfRuns}
 use Rattle.paths.specs.Entries.{sought-entry}
-use Rattle.paths.specs.Searching.{Over, Goes, Ends, goes_on, goes_at, over_none, over_runs, over-room, over-next, over-over, strikes, strikes-over}
+use Rattle.paths.specs.Searching.{Over, Goes, Ends, goes_on, goes-over, over_none, over_runs, over-room, over-next, over-over, strikes}
 use Rattle.paths.proofs.pass_over.Goals as goal
 use Rattle.paths.proofs.pass_over.Goals.{After-further-next, In-On}
 
-pub loop-e-init : goal.loop-e-init
-loop-e-init c = let i = c.requires.0.inside in over_none _ _ _ _ _ c.requires.0 (omega (arith, i.fits, i.short))
+pub loop-at-init : goal.loop-at-init
+loop-at-init c = let i = c.requires.0.inside in over_none _ _ _ _ _ c.requires.0 (omega (arith, i.fits, i.short))
 
 -- over the slots that stand by themselves, and so far in all
 passed : (c : In-On) → let a = c.args in
-    Over a.img.now a.what a.path.now c.loop-e.c c.loop-e.n c.in-On.at c.in-On.looked
-passed c = goes_on _ _ _ _ _ _ c.pass_singles.ensures _ _ c.in-On.is
+    Over a.img.now a.what a.path.now c.loop-at.c c.loop-at.n c.in-On.at c.in-On.looked
+passed c = goes_on _ _ _ _ _ _ c.pass_singles-way.ensures _ _ c.in-On.is
 
 over : (c : In-On) → let a = c.args in
     Over a.img.now a.what a.path.now a.from 0 c.in-On.at c.in-On.looked
-over c = over-over _ _ _ _ _ _ _ _ _ c.loop-e.invariant (passed c)
+over c = over-over _ _ _ _ _ _ _ _ _ c.loop-at.invariant (passed c)
 
 runs : (c : After-further-next) → let a = c.args in OfRuns (edition_view a.from.edition) a.what
 runs c = c.requires.1
 
-pub returns-in-At : goal.returns-in-At
-unfolding Goes Ends
-returns-in-At c =
+pub returns-in_default : goal.returns-in_default
+unfolding Ends
+returns-in_default c =
     record {
-      goes = strikes-over _ _ _ _ _ _ _ c.loop-e.invariant _ _ _ (goes_at _ _ _ _ _ _ c.pass_singles.ensures _ _ _ c.in-At.is);
-      ended = tt;
+      goes = goes-over _ _ _ _ _ _ _ c.loop-at.invariant _ c.pass_singles-way.ensures;
+      ended = rw c.in_default.is tt;
     }
 
 pub returns-then-at-eq0 : goal.returns-then-at-eq0
@@ -61,12 +61,12 @@ returns-then-tried c =
       ended = tt;
     }
 
-pub loop-e-preserved : goal.loop-e-preserved
-loop-e-preserved c =
-    over-next _ _ _ _ _ (runs (goal.at.loop-e-preserved c).After-further-next) _ _ (over (goal.at.loop-e-preserved c).In-On) _ _ c.further-next.ensures _ c.passes-tried.ensures.counted (sym c.passes-tried.ensures.same_value ∙ c.if-tried.false)
+pub loop-at-preserved : goal.loop-at-preserved
+loop-at-preserved c =
+    over-next _ _ _ _ _ (runs (goal.at.loop-at-preserved c).After-further-next) _ _ (over (goal.at.loop-at-preserved c).In-On) _ _ c.further-next.ensures _ c.passes-tried.ensures.counted (sym c.passes-tried.ensures.same_value ∙ c.if-tried.false)
 
-pub pass_singles-requires : goal.pass_singles-requires
-pass_singles-requires c = (c.loop-e.invariant.walks, rw c.loop-e.invariant.behind.edition c.requires.1, c.loop-e.invariant.few)
+pub pass_singles-way-requires : goal.pass_singles-way-requires
+pass_singles-way-requires c = (c.loop-at.invariant.walks, rw c.loop-at.invariant.behind.edition c.requires.1, c.loop-at.invariant.few)
 
-pub loop-e-smaller : goal.loop-e-smaller
-loop-e-smaller c = omega (arith, c.further-next.ensures.less, (passed (goal.at.loop-e-smaller c).In-On).onward)
+pub loop-at-smaller : goal.loop-at-smaller
+loop-at-smaller c = omega (arith, c.further-next.ensures.less, (passed (goal.at.loop-at-smaller c).In-On).onward)
