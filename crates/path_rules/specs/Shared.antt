@@ -1,10 +1,12 @@
 -- Keys whose paths begin as one pivot does, as far as their numbers say: what two of them have in common is not walked again.
 use Rattle.std.specs.Prelude.{ℕ, zero, suc, ◌+◌, ◌*◌, ◌/◌, ◌%◌, ◌≤◌, ◌<◌, min, ◌≡◌, refl, Bool, List, [], ◌∷◌, map, length, get_or, take, drop}
-use Rattle.std.proofs.Common.{sym, ap₂, ◌∙◌, eq-eqb}
+use Rattle.std.proofs.Common.{sym, ap, ap₂, ◌∙◌, eq-eqb}
+use Rattle.std.proofs.lemmas.List.{length-take}
 use native.Mathlib.Omega.{arith}
 use Rattle.rules.specs.Lists.{pick, All}
 use Rattle.rules.specs.Lists.Laws.{pick_true}
 use Rattle.rules.specs.Fields.{Bytes, up_to_zero}
+use Rattle.rules.specs.Fields.Laws.{up_to_zero-take}
 use Rattle.rules.specs.Editions.{Edition}
 use Rattle.rules.specs.Index.{name_field}
 use Rattle.rules.specs.Index.Frame.{take_same}
@@ -37,6 +39,11 @@ follows-behind directory (suc d) (x ∷ p) (y ∷ q) h =
 pub names-behind : (directory : Bool) (d : ℕ) (f g : List ℕ) → Common d (up_to_zero f) (up_to_zero g)
     → follows directory (up_to_zero (drop d f)) (up_to_zero (drop d g)) ≡ follows directory (up_to_zero f) (up_to_zero g)
 names-behind directory d f g h = ap₂ (follows directory) (zero-behind d f h.0) (zero-behind d g h.1) ∙ follows-behind directory d (up_to_zero f) (up_to_zero g) h
+
+-- they lie in the fields
+pub names-inside : (d : ℕ) (f g : List ℕ) → Common d (up_to_zero f) (up_to_zero g) → (d ≤ length f) × (d ≤ length g)
+names-inside d f g h =
+    (omega (arith, h.0, ap length (up_to_zero-take f), length-take (length (up_to_zero f)) f), omega (arith, h.1, ap length (up_to_zero-take g), length-take (length (up_to_zero g)) g))
 
 -- each has some in common with a third
 common-with : (bs : List ℕ) (m n : ℕ) (p q : List ℕ) → (m ≤ length p) × (take m p ≡ take m bs) → (n ≤ length q) × (take n q ≡ take n bs) → Common (min m n) p q
