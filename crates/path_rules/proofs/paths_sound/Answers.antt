@@ -17,9 +17,9 @@ returns-then-chained c =
     (ap (λ (ks : List ℕ). chain (map (key_entry c.args.img.now c.args.from) ks)) (sym (take_rest c.gather-i.new.keys c.gather-i.result)) ∙ sym c.chained.ensures ∙ c.if-chained.true)
 
 pub chained-requires-2 : goal.chained-requires-2
-chained-requires-2 c = (search rules, rw take_rest (pivoted-sorted _ _ _ (λ i. (c.shared_slice_known-1.given i).fits) _ _ _ c.number.ensures c.sort_from.ensures))
+chained-requires-2 c = (search rules, rw take_rest (pivoted-sorted _ _ _ (λ i. (c.type_inv.img i).fits) _ _ _ c.number.ensures c.sort_from.ensures))
 
 pub returns : goal.returns
 returns c =
     c.chained-2.ensures ∙ ap (λ (ks : List ℕ). chain (map (key_entry c.args.img.now c.args.from) ks)) (take_rest c.sort_from.new.keys c.gather-i.result)
-    ∙ sound-sorted _ _ _ _ c.gather-i.ensures (λ i. (c.shared_slice_known-1.given i).fits) _ c.number.ensures.few _ _ c.number.ensures.keys c.sort_from.ensures
+    ∙ sound-sorted _ _ _ _ c.gather-i.ensures (λ i. (c.type_inv.img i).fits) _ c.number.ensures.few _ _ c.number.ensures.keys c.sort_from.ensures
