@@ -1,6 +1,6 @@
 -- A record as its writers cut it, and what was put into an output.
 use Prim.Native.Nat.{ℕ, ◌+◌, ◌-◌, ◌≤◌, ◌<◌}
-use Rattle.std.specs.Prelude.{◌≡◌, refl, true, false, leb}
+use Rattle.std.specs.Prelude.{◌≡◌, refl, true, false, leb, Option, Some, None, is_some}
 use Rattle.std.proofs.Math.Path.{sym, ap}
 use Rattle.std.proofs.Common.{◌∙◌, arith, zero-add, length-append, leb-true}
 use mathlib.Core.List.{List, [], ◌∷◌, ◌++◌, append_assoc}
@@ -26,6 +26,7 @@ use Rattle.index.specs.Steps.{entries_from}
 use Rattle.text.specs.Wrote.{Wrote, ToWrite, left-none, left-next}
 use Rattle.reading.specs.Found.{end-given}
 use Rattle.records.specs.declared.Put.{Put}
+use Rattle.units.specs.declared.Slot.{Slot}
 use Rattle.laws.proofs.Records.Packed.{record_length, record-length, stamp-length, packed, packed_none, packed-full, packed-next, packed-fits, packed-bare, records_done, records-none, records-left, records-some}
 
 -- ---- a record's parts
@@ -61,12 +62,17 @@ record-parts s h =
 abbrev pub wanted : List ℕ → Cursor → ℕ → List ℕ → Recorded
 wanted s c slot out = packed (edition_view c.edition) (length out) slot (only (live_from slot) (entries_from s c))
 
+-- the slot to go on from, 0 where no entry is left
+abbrev pub next_slot : Option Slot → ℕ
+next_slot None = 0
+next_slot (Some k) = k.0
+
 -- these were put
 pub record PutOf (g : Recorded) (out : List ℕ) (r : Put) (after : List ℕ) : Type 0 where
   pub count : r.count ≡ g.count
   pub wrote : Wrote out 0 g.bytes after r.end
-  pub next : r.next.0 ≡ g.next
-  pub ended : g.ended ≡ pick r.full 18 0
+  pub next : next_slot r.next ≡ g.next
+  pub ended : g.ended ≡ pick (is_some r.next) 18 0
   pub bare : g.count ≡ 0 → g.bytes ≡ []
 
 abbrev pub PutAll : List ℕ → Cursor → ℕ → List ℕ → Put → List ℕ → Type 0
@@ -99,7 +105,7 @@ module _ (s : List ℕ) (c : Cursor) (slot : ℕ) (out : List ℕ) where
 
   module _ (t : List ℕ) (d : Cursor) (n end next : ℕ) (p : Putting t d n end next) where
     -- where it stops
-    stops : (r : Put) (m k : ℕ) → to_come d end next ≡ stop_at m k → r.count ≡ n → r.end ≡ end → r.next.0 ≡ k → pick r.full 18 0 ≡ m → PutAll s c slot out r t
+    stops : (r : Put) (m k : ℕ) → to_come d end next ≡ stop_at m k → r.count ≡ n → r.end ≡ end → next_slot r.next ≡ k → pick (is_some r.next) 18 0 ≡ m → PutAll s c slot out r t
     unfolding stop_at
     stops r m k same i j l f = record {
       count = omega (arith, i, p.counts, ap (λ (g : Recorded). g.count) same);
@@ -109,12 +115,12 @@ module _ (s : List ℕ) (c : Cursor) (slot : ℕ) (out : List ℕ) where
       bare = packed-bare (edition_view c.edition) (length out) slot (only (live_from slot) (entries_from s c));
     }
 
-    pub putting-none : (r : Put) → r.count ≡ n → r.end ≡ end → r.next.0 ≡ 0 → r.full ≡ false → only (live_from slot) (entries_from s d) ≡ [] → PutAll s c slot out r t
-    putting-none r i j l f e = stops r 0 0 (packed_none _ _ _ _ e) i j l (pick-false 18 0 f)
+    pub putting-none : (r : Put) → r.count ≡ n → r.end ≡ end → r.next ≡ None → only (live_from slot) (entries_from s d) ≡ [] → PutAll s c slot out r t
+    putting-none r i j l e = stops r 0 0 (packed_none _ _ _ _ e) i j (ap next_slot l) (pick-false 18 0 (ap is_some l))
 
     module _ (x : Entry) (xs : List Entry) (here : only (live_from slot) (entries_from s d) ≡ x ∷ xs) where
-      pub putting-full : (r : Put) → r.count ≡ n → r.end ≡ end → r.next.0 ≡ next → r.full ≡ true → leb (record_length x) (length out - end) ≡ false → PutAll s c slot out r t
-      putting-full r i j l f e = stops r 18 next (packed-full _ _ _ _ x xs here e) i j l (pick_true 18 0 f)
+      pub putting-full : (r : Put) → r.count ≡ n → r.end ≡ end → (k : Slot) → k.0 ≡ next → r.next ≡ Some k → leb (record_length x) (length out - end) ≡ false → PutAll s c slot out r t
+      putting-full r i j k is l e = stops r 18 next (packed-full _ _ _ _ x xs here e) i j (ap next_slot l ∙ is) (pick_true 18 0 (ap is_some l))
 
     -- a record further
     module _ (x : Entry) (d' : Cursor) (here : only (live_from slot) (entries_from s d) ≡ x ∷ only (live_from slot) (entries_from s d')) (fits : leb (record_length x) (length out - end) ≡ true) where
@@ -145,19 +151,21 @@ module _ (s : List ℕ) (c : Cursor) (slot : ℕ) (out : List ℕ) where
 
 -- ---- what is answered
 module _ (s : List ℕ) (g : Recorded) (out : List ℕ) (put : Put) (after : List ℕ) (p : PutOf g out put after) (r : Records) where
-  done-is : r.refusal ≡ 0 → r.count ≡ put.count → r.length ≡ put.end → r.next ≡ put.next.0 → records_view s after r ≡ records_done s out g
+  done-is : r.refusal ≡ 0 → r.count ≡ put.count → r.length ≡ put.end → r.next ≡ next_slot put.next → records_view s after r ≡ records_done s out g
   done-is z i j k =
       records-outcome s after r _ z (rw (i, j, k, p.count, p.next, p.wrote.1 ∙ zero-add _))
       ∙ ap (λ (t : List ℕ). done (record { count = g.count; length = length g.bytes; next = g.next }) s t) p.wrote.0
 
-  pub told-left : put.full ≡ false → r.refusal ≡ 0 → r.count ≡ put.count → r.length ≡ put.end → r.next ≡ put.next.0 → records_view s after r ≡ records_outcome s out g
+  pub told-left : is_some put.next ≡ false → r.refusal ≡ 0 → r.count ≡ put.count → r.length ≡ put.end → r.next ≡ next_slot put.next → records_view s after r ≡ records_outcome s out g
   told-left f z i j k = done-is z i j k ∙ sym (records-left s out g (p.ended ∙ pick-false 18 0 f))
 
-  pub told-some : (put.count ≡ 0 → ⊥) → r.refusal ≡ 0 → r.count ≡ put.count → r.length ≡ put.end → r.next ≡ put.next.0 → records_view s after r ≡ records_outcome s out g
+  pub told-some : (put.count ≡ 0 → ⊥) → r.refusal ≡ 0 → r.count ≡ put.count → r.length ≡ put.end → r.next ≡ next_slot put.next → records_view s after r ≡ records_outcome s out g
   told-some n z i j k = done-is z i j k ∙ sym (records-some s out g (let d : g.count ≡ 0 → ⊥ = λ e. n (p.count ∙ e) in omega (arith, d)))
 
-  pub told_none : put.full ≡ true → put.count ≡ 0 → records_view s out r ≡ denied no_records s out 18 → records_view s after r ≡ records_outcome s out g
-  told_none f z e =
+-- not even the first record fits
+module _ (s : List ℕ) (g : Recorded) (out : List ℕ) (put : Put) (after : List ℕ) (p : PutOf g out put after) where
+  pub told_none : is_some put.next ≡ true → put.count ≡ 0 → denied no_records s after 18 ≡ records_outcome s out g
+  told_none f z =
       let none : g.count ≡ 0 = sym p.count ∙ z in
       let same : after ≡ out = p.wrote.0 ∙ ap (splice out 0) (p.bare none) ∙ splice-nil out 0 in
-      ap (λ (t : List ℕ). records_view s t r) same ∙ e ∙ sym (records-none s out g (p.ended ∙ pick_true 18 0 f) none)
+      ap (λ (t : List ℕ). denied no_records s t 18) same ∙ sym (records-none s out g (p.ended ∙ pick_true 18 0 f) none)

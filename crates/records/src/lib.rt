@@ -7,7 +7,9 @@ ghost use Rattle.rules.specs.Fields.{le_bytes, stamp_bytes, signed_of};
 ghost use Rattle.rules.specs.Index.{run_type};
 ghost use Rattle.rules.specs.Outcome.{numbers_of};
 ghost use Rattle.rules.specs.Outcome.Laws.{denied};
-ghost use Rattle.rules.specs.Records.{record_bytes, Recorded, no_records, records_outcome};
+ghost use Rattle.rules.specs.Records.{record_bytes, Recorded, no_records, records_outcome, list_all_of};
+ghost use Rattle.refusals.specs.View.{number_of};
+ghost use Rattle.reading.specs.Told.{told_as};
 ghost use Rattle.contracts.specs.Promises.{ListsAll, records_view};
 ghost use Rattle.editions.specs.View.{edition_view};
 ghost use Rattle.slots.specs.View.{head_view, HeadIn};
@@ -16,13 +18,11 @@ ghost use Rattle.index.specs.Steps.{Walks};
 ghost use Rattle.text.specs.Wrote.{Wrote};
 ghost use Rattle.judging.specs.View.{Opened};
 ghost use Rattle.laws.proofs.Records.Packed.{record_length};
-ghost use Rattle.records.specs.View.{place_bytes, extent_bytes, PutOf, PutAll};
+ghost use Rattle.records.specs.View.{place_bytes, extent_bytes, next_slot, PutOf, PutAll};
 
 use contracts::Records;
-use geometry::Geometry;
 use index::Cursor;
-use judging::Judged;
-use paths::Hit;
+use refusals::Refusal;
 use slots::Head;
 use units::{Offset, Slot};
 
@@ -97,38 +97,12 @@ fn fits(img: &[u8], h: Head, room: usize) -> bool
     slots::path_of(img, h).len() <= room - NUMBERS
 }
 
-// What was put into an output: the place behind the last record, and the slot to go on from, 0 where no entry is left. `full`: the next record
-// does not fit.
+// What was put into an output: the place behind the last record, and, where the next record does not fit, the slot to go on from.
 #[derive(Clone, Copy)]
 struct Put {
     count: u64,
     end: usize,
-    next: Slot,
-    full: bool,
-}
-
-// No entry is left.
-fn all_put(count: u64, end: usize) -> Put
-    ensures { (result.count ≡ count) × (result.end ≡ end) × (result.next.0 ≡ 0) × (result.full ≡ false) }
-{
-    Put {
-        count,
-        end,
-        next: Slot::at(0),
-        full: false,
-    }
-}
-
-// The next record does not fit.
-fn part_put(count: u64, end: usize, next: Slot) -> Put
-    ensures { (result.count ≡ count) × (result.end ≡ end) × (result.next.0 ≡ next.0) × (result.full ≡ true) }
-{
-    Put {
-        count,
-        end,
-        next,
-        full: true,
-    }
+    next: Option<Slot>,
 }
 
 fn put_records(img: &[u8], sums: &[u8], from: Cursor, slot: Slot, out: &mut [u8]) -> Put
@@ -140,63 +114,63 @@ fn put_records(img: &[u8], sums: &[u8], from: Cursor, slot: Slot, out: &mut [u8]
     let mut count = 0;
     let mut end: usize = 0;
     let mut next = slot;
-    loop {
-        match paths::next_live(img, sums, c, slot) {
-            Hit::Nothing => return all_put(count, end),
-            Hit::Entry(h, rest) => {
-                if !fits(img, h, room - end) {
-                    return part_put(count, end, next);
-                }
-                end = put_record(img, h, out, end);
-                next = h.slot.after(1);
-                count += 1;
-                c = rest;
-            }
+    while let Some((h, rest)) = paths::next_live(img, sums, c, slot) {
+        if !fits(img, h, room - end) {
+            return Put {
+                count,
+                end,
+                next: Some(next),
+            };
         }
+        end = put_record(img, h, out, end);
+        next = h.slot.after(1);
+        count += 1;
+        c = rest;
+    }
+    Put {
+        count,
+        end,
+        next: None,
     }
 }
 
 // ---- the call
 
-fn no_records(n: u32) -> Records
-    ensures { (s out : List ℕ) → records_view s out result ≡ denied no_records s out n }
+fn no_records(r: Refusal) -> Records
+    ensures { (s out : List ℕ) → records_view s out result ≡ denied no_records s out (number_of r) }
 {
     Records {
-        refusal: n,
-        count: 0,
-        length: 0,
-        next: 0,
+        refusal: u32::from(r),
+        ..Records::default()
     }
 }
 
+// The slot to go on from is 0 where no entry is left.
 fn records_of(put: Put) -> Records
-    ensures { (result.refusal ≡ 0) × (result.count ≡ put.count) × (result.length ≡ put.end) × (result.next ≡ put.next.0) }
+    ensures { (result.refusal ≡ 0) × (result.count ≡ put.count) × (result.length ≡ put.end) × (result.next ≡ next_slot put.next) }
 {
     Records {
         refusal: 0,
         count: put.count,
         length: put.end as u64,
-        next: put.next.number(),
+        next: put.next.map_or(0, Slot::number),
     }
 }
 
 // 18 where not even the first record fits.
-fn told(put: Put) -> Records
-    ensures { (s out after : List ℕ) (g : Recorded) → PutOf g out put after → records_view s after result ≡ records_outcome s out g }
+fn told(put: Put) -> Result<Records, Refusal>
+    ensures { (s out after : List ℕ) (g : Recorded) → PutOf g out put after → told_as records_view no_records s after result ≡ records_outcome s out g }
 {
-    if !put.full {
-        return records_of(put);
+    if put.next.is_some() && put.count == 0 {
+        return Err(Refusal::TooShort);
     }
-    if put.count == 0 {
-        return no_records(18);
-    }
-    records_of(put)
+    Ok(records_of(put))
 }
 
-fn list_all_from(img: &[u8], g: Geometry, slot: Slot, out: &mut [u8]) -> Records
-    requires { Opened img.now g }
-    ensures { ListsAll img.now slot.0 out.old result out.new }
+fn list_all_from(img: &[u8], slot: Slot, out: &mut [u8]) -> Result<Records, Refusal>
+    ensures { told_as records_view no_records img.now out.new result ≡ list_all_of img.now slot.0 out.old }
 {
+    let g = judging::judge(img)?;
     let mut sums = [0u8; sums::ROOM];
     let from = super_block::first_slot(img, g, &mut sums);
     let put = put_records(img, &sums, from, slot, out);
@@ -206,8 +180,8 @@ fn list_all_from(img: &[u8], g: Geometry, slot: Slot, out: &mut [u8]) -> Records
 pub fn list_all(img: &[u8], slot: u64, out: &mut [u8]) -> Records
     ensures { ListsAll img.now slot out.old result out.new }
 {
-    match judging::judge(img) {
-        Judged::Refused(n) => no_records(n as u32),
-        Judged::Good(g) => list_all_from(img, g, Slot::at(slot), out),
+    match list_all_from(img, Slot::at(slot), out) {
+        Ok(records) => records,
+        Err(e) => no_records(e),
     }
 }
