@@ -70,51 +70,47 @@ pub fn sfs_read(image: &[u8], path: &[u8], out: &mut [u8]) -> Content
 pub fn sfs_create_file(image: &mut [u8], path: &[u8], bytes: &[u8], stamp: i64) -> u32
     ensures { CreatesFile image.old path.now bytes.now stamp result image.new }
 {
-    creating::create(
-        image,
-        New {
-            made: Made::File(bytes),
-            path,
-            stamp: stamps::to_bits(stamp),
-        },
-    )
+    let new = New {
+        made: Made::File(bytes),
+        path,
+        stamp: stamps::to_bits(stamp),
+    };
+    refusals::answer(creating::create(image, new))
 }
 
 pub fn sfs_create_directory(image: &mut [u8], path: &[u8], stamp: i64) -> u32
     ensures { CreatesDirectory image.old path.now stamp result image.new }
 {
-    creating::create(
-        image,
-        New {
-            made: Made::Directory,
-            path,
-            stamp: stamps::to_bits(stamp),
-        },
-    )
+    let new = New {
+        made: Made::Directory,
+        path,
+        stamp: stamps::to_bits(stamp),
+    };
+    refusals::answer(creating::create(image, new))
 }
 
 pub fn sfs_delete(image: &mut [u8], path: &[u8], stamp: i64) -> u32
     ensures { Deletes image.old path.now stamp result image.new }
 {
-    erasing::delete(image, path, stamps::to_bits(stamp))
+    refusals::answer(erasing::delete(image, path, stamps::to_bits(stamp)))
 }
 
 pub fn sfs_delete_keep(image: &mut [u8], path: &[u8], stamp: i64) -> u32
     ensures { DeletesKeeping image.old path.now stamp result image.new }
 {
-    erasing::delete_keep(image, path, stamps::to_bits(stamp))
+    refusals::answer(erasing::delete_keep(image, path, stamps::to_bits(stamp)))
 }
 
 pub fn sfs_restore(image: &mut [u8], path: &[u8], stamp: i64) -> u32
     ensures { Restores image.old path.now stamp result image.new }
 {
-    restoring::restore(image, path, stamps::to_bits(stamp))
+    refusals::answer(restoring::restore(image, path, stamps::to_bits(stamp)))
 }
 
 pub fn sfs_reclaim(image: &mut [u8], stamp: i64) -> u32
     ensures { Reclaims image.old stamp result image.new }
 {
-    erasing::reclaim(image, stamps::to_bits(stamp))
+    refusals::answer(erasing::reclaim(image, stamps::to_bits(stamp)))
 }
 
 // ---- texts

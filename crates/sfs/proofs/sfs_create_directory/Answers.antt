@@ -7,5 +7,6 @@ use Rattle.sfs.proofs.sfs_create_directory.Goals as goal
 pub returns : goal.returns
 unfolding new_of
 returns c =
-    c.create.ensures
-    ∙ ap (create_of c.args.image.now new_directory c.args.path.now) (stamp-is c.args.stamp _ c.ranges.stamp c.to_bits.ensures)
+    rw c.answer.ensures
+    (c.create.ensures
+    ∙ ap (create_of c.args.image.now new_directory c.args.path.now) (stamp-is c.args.stamp _ c.ranges.stamp c.to_bits.ensures))

@@ -5,5 +5,6 @@ use Rattle.sfs.proofs.sfs_delete.Goals as goal
 
 pub returns : goal.returns
 returns c =
-    c.delete.ensures
-    ∙ ap (delete_of c.args.image.now c.args.path.now) (stamp-is c.args.stamp _ c.ranges.stamp c.to_bits.ensures)
+    rw c.answer.ensures
+    (c.delete.ensures
+    ∙ ap (delete_of c.args.image.now c.args.path.now) (stamp-is c.args.stamp _ c.ranges.stamp c.to_bits.ensures))

@@ -5,5 +5,6 @@ use Rattle.sfs.proofs.sfs_delete_keep.Goals as goal
 
 pub returns : goal.returns
 returns c =
-    c.delete_keep.ensures
-    ∙ ap (delete_keep_of c.args.image.now c.args.path.now) (stamp-is c.args.stamp _ c.ranges.stamp c.to_bits.ensures)
+    rw c.answer.ensures
+    (c.delete_keep.ensures
+    ∙ ap (delete_keep_of c.args.image.now c.args.path.now) (stamp-is c.args.stamp _ c.ranges.stamp c.to_bits.ensures))

@@ -5,5 +5,6 @@ use Rattle.sfs.proofs.sfs_reclaim.Goals as goal
 
 pub returns : goal.returns
 returns c =
-    c.reclaim.ensures
-    ∙ ap (reclaim_of c.args.image.now) (stamp-is c.args.stamp _ c.ranges.stamp c.to_bits.ensures)
+    rw c.answer.ensures
+    (c.reclaim.ensures
+    ∙ ap (reclaim_of c.args.image.now) (stamp-is c.args.stamp _ c.ranges.stamp c.to_bits.ensures))
