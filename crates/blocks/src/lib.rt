@@ -10,7 +10,7 @@ ghost use Rattle.blocks.specs.View.{field_view};
 pub fn block_field(n: u64) -> Option<u8>
     ensures { field_view result ≡ field_of n }
 {
-    if n < 256 || 4096 < n {
+    if !(256..=4096).contains(&n) {
         return None;
     }
     if n.count_ones() != 1 {

@@ -45,9 +45,10 @@ impl Geometry {
         requires { self.index_bytes + bytes < 2 ^ 64 }
         ensures { geometry_view result ≡ grow_index (geometry_view self) bytes }
     {
-        let mut g = self;
-        g.index_bytes = self.index_bytes + bytes;
-        g
+        Geometry {
+            index_bytes: self.index_bytes + bytes,
+            ..self
+        }
     }
 
     // The data area's end moved to `end`, unless it is there or past it.
@@ -55,42 +56,38 @@ impl Geometry {
         ensures { geometry_view result ≡ extend_data (geometry_view self) end.0 }
     {
         let blocks = end.blocks_past(self.data_start());
-        let mut g = self;
-        if g.data_blocks < blocks {
-            g.data_blocks = blocks;
+        Geometry {
+            data_blocks: self.data_blocks.max(blocks),
+            ..self
         }
-        g
     }
 
     // The data area trimmed so that it ends at `end`.
     pub fn trim_data(self, end: Block) -> Geometry
         ensures { geometry_view result ≡ trim_data (geometry_view self) end.0 }
     {
-        let mut g = self;
-        g.data_blocks = end.blocks_past(self.data_start());
-        g
+        Geometry {
+            data_blocks: end.blocks_past(self.data_start()),
+            ..self
+        }
     }
 
     // The new geometry `self` with the stamp of the call, if a size is not what it was in `old`.
     pub fn restamp(self, old: Geometry, stamp: u64) -> Geometry
         ensures { geometry_view result ≡ restamp (geometry_view old) (geometry_view self) (signed_of stamp) }
     {
-        if old.index_bytes != self.index_bytes {
-            return self.stamped(stamp);
+        if old.index_bytes != self.index_bytes || old.data_blocks != self.data_blocks {
+            self.stamped(stamp)
+        } else {
+            self
         }
-        if old.data_blocks != self.data_blocks {
-            return self.stamped(stamp);
-        }
-        self
     }
 
     // The same with another stamp.
     pub fn stamped(self, stamp: u64) -> Geometry
         ensures { geometry_view result ≡ with_stamp (geometry_view self) (signed_of stamp) }
     {
-        let mut g = self;
-        g.stamp = stamp;
-        g
+        Geometry { stamp, ..self }
     }
 
     // The bytes of a block.
@@ -135,24 +132,15 @@ impl Geometry {
     pub fn is_good(self, n: u64) -> bool
         ensures { result ≡ geometry_good n (geometry_view self) }
     {
-        if self.block_field < LEAST_FIELD {
-            return false;
-        }
-        if MOST_FIELD < self.block_field {
+        if !(LEAST_FIELD..=MOST_FIELD).contains(&self.block_field) {
             return false;
         }
         let len = self.block_length();
         let reserved = self.reserved as u64;
-        if !is_product(self.total, len, n) {
-            return false;
-        }
-        if reserved * len < LEAST_RESERVED {
-            return false;
-        }
-        if self.total < reserved + LEAST_REST {
-            return false;
-        }
-        self.areas_fit(n)
+        is_product(self.total, len, n)
+            && LEAST_RESERVED <= reserved * len
+            && reserved + LEAST_REST <= self.total
+            && self.areas_fit(n)
     }
 
     // The index area's size, and the data area below it.
@@ -160,37 +148,24 @@ impl Geometry {
         requires { self.block_field ≤ 5 }
         ensures { result ≡ areas_fit n (geometry_view self) }
     {
-        if !index_good(self.index_bytes) {
-            return false;
-        }
-        if n < self.index_bytes {
-            return false;
-        }
-        self.data_start()
-            .has_room(self.data_blocks, self.ceiling(n))
+        index_good(self.index_bytes)
+            && self.index_bytes <= n
+            && self
+                .data_start()
+                .has_room(self.data_blocks, self.ceiling(n))
     }
 }
 
 // Whether total blocks of `len` bytes are n bytes; the product may pass 64 bits.
 fn is_product(total: u64, len: u64, n: u64) -> bool
-    requires { 0 < len }
     ensures { result ≡ eqb (total * len) n }
 {
-    if n % len != 0 {
-        return false;
-    }
-    total == n / len
+    total.checked_mul(len) == Some(n)
 }
 
 // Whether an index area may have so many bytes.
 pub fn index_good(i: u64) -> bool
     ensures { result ≡ index_good i }
 {
-    if i < LEAST_INDEX {
-        return false;
-    }
-    if MOST_INDEX < i {
-        return false;
-    }
-    i % units::SLOT_BYTES == 0
+    (LEAST_INDEX..=MOST_INDEX).contains(&i) && i % units::SLOT_BYTES == 0
 }

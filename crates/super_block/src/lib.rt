@@ -63,9 +63,8 @@ fn read_geometry(img: &[u8], ed: Edition) -> Geometry
     requires { 512 ≤ length img.now }
     ensures { geometry_view result ≡ geometry_of (edition_view ed) img.now }
 {
-    let edition = ed;
     Geometry {
-        edition,
+        edition: ed,
         stamp: fields::le64_at(img, place(ed, STAMP)),
         data_blocks: fields::le64_at(img, place(ed, DATA)),
         index_bytes: fields::le64_at(img, place(ed, INDEX)),
@@ -80,23 +79,15 @@ fn read_geometry(img: &[u8], ed: Edition) -> Geometry
 pub fn length_good(n: u64) -> bool
     ensures { result ≡ length_good n }
 {
-    if n < 512 {
-        return false;
-    }
-    n <= 16_777_216
+    (512..=units::LONGEST).contains(&n)
 }
 
 fn magic_good(img: &[u8], ed: Edition) -> bool
     requires { 512 ≤ length img.now }
     ensures { result ≡ magic_good (edition_view ed) img.now }
 {
-    if byte_at(img, ed, MAGIC) != 0x53 {
-        return false;
-    }
-    if byte_at(img, ed, MAGIC + 1) != 0x46 {
-        return false;
-    }
-    byte_at(img, ed, MAGIC + 2) == 0x53
+    let start = place(ed, MAGIC).index();
+    img[start..].starts_with(b"SFS")
 }
 
 // The edition that an image's magic says. The place of 1.0's is looked at first; what is found is not tried as the other.
@@ -185,10 +176,7 @@ pub fn index_sound(img: &[u8], sums: &[u8], g: Geometry, from: Cursor) -> bool
     requires { Judged img.now g × (items_from img.now from ≡ items_of img.now (geometry_view g)) × Inside img.now from × SumsFrom img.now sums.now from }
     ensures { result ≡ index_sound img.now (geometry_view g) (items_of img.now (geometry_view g)) }
 {
-    if !ends::are_good(img, g) {
-        return false;
-    }
-    index::walk_sound(img, sums, from)
+    ends::are_good(img, g) && index::walk_sound(img, sums, from)
 }
 
 // ---- writing

@@ -1,21 +1,27 @@
+use Prim.Native.Nat.{◌≤◌}
+use native.Mathlib.Omega.{arith}
+use Rattle.std.proofs.lemmas.Grind.{common_steps}
 use Rattle.blocks.proofs.Powers.{too_small, too_large, no_power, right, FieldRight}
 use Rattle.blocks.proofs.block_field.Goals as goal
-use Rattle.blocks.proofs.block_field.Goals.{then-n-lt256-via-then-n-lt256, then-n-lt256-via-else-n-lt256+then-n-gt4096}
+use Rattle.blocks.proofs.block_field.Goals.{Else-n-ne1}
 
-pub returns-then-n-lt256 : goal.returns-then-n-lt256
-returns-then-n-lt256 c =
-    elim c.then-n-lt256.branch [
-      then-n-lt256-via-then-n-lt256 w ↦ too_small c.args.n w.if-n-lt256.true
-    | then-n-lt256-via-else-n-lt256+then-n-gt4096 w ↦ too_large c.args.n w.if-n-gt4096.true
-    ]
+-- a size between the two ends with one set bit
+size : (c : Else-n-ne1) → FieldRight c.args.n
+size c =
+    let a : 256 ≤ c.args.n = grind (arith, common_steps) in
+    let b : c.args.n ≤ 4096 = grind (arith, common_steps) in
+    right c.args.n a b c.if-n-ne1.false
+
+pub returns-then-not-contains : goal.returns-then-not-contains
+returns-then-not-contains c = grind (arith, common_steps, too_small, too_large)
 
 pub returns-then-n-ne1 : goal.returns-then-n-ne1
 returns-then-n-ne1 c = no_power c.args.n c.if-n-ne1.true
 
 pub overflow_sub-result : goal.overflow_sub-result
 unfolding FieldRight
-overflow_sub-result c = (right c.args.n c.if-n-lt256.false c.if-n-gt4096.false c.if-n-ne1.false).0
+overflow_sub-result c = (size (goal.at.overflow_sub-result c).Else-n-ne1).0
 
 pub returns : goal.returns
 unfolding FieldRight
-returns c = (right c.args.n c.if-n-lt256.false c.if-n-gt4096.false c.if-n-ne1.false).2
+returns c = (size (goal.at.returns c).Else-n-ne1).2

@@ -1,15 +1,17 @@
 use Rattle.rules.specs.SuperBlock.{index_good}
-use borrow.Author.Tests.{lt-leb, le-leb}
+use native.Mathlib.Omega.{arith}
+use borrow.Author.Tests.{le-leb}
+use Rattle.std.specs.Prelude.{◌≤◌}
+use Rattle.std.proofs.lemmas.Grind.{common_steps}
 use Rattle.geometry.proofs.index_good.Goals as goal
 
-pub returns-then-i-lt-LEAST_INDEX : goal.returns-then-i-lt-LEAST_INDEX
+pub returns-then-contains : goal.returns-then-contains
 unfolding index_good
-returns-then-i-lt-LEAST_INDEX c = search (lt-leb, le-leb)
+returns-then-contains c =
+    let a : 128 ≤ c.args.i = grind (arith, common_steps) in
+    let b : c.args.i ≤ 262_144 = grind (arith, common_steps) in
+    rw (le-leb _ _ a, le-leb _ _ b)
 
-pub returns-then-i-gt-MOST_INDEX : goal.returns-then-i-gt-MOST_INDEX
+pub returns-else-contains : goal.returns-else-contains
 unfolding index_good
-returns-then-i-gt-MOST_INDEX c = search (lt-leb, le-leb)
-
-pub returns : goal.returns
-unfolding index_good
-returns c = search (lt-leb, le-leb)
+returns-else-contains c = grind (arith, common_steps)

@@ -1,5 +1,4 @@
 use mathlib.Core.Path.{sym, ◌∙◌}
-use Rattle.rules.specs.Lists.{pick}
 use Rattle.rules.specs.Lists.Laws.{pick_true, pick-false}
 use Rattle.rules.specs.Refusals.{edition_of}
 use Rattle.editions.specs.View.{edition_view}

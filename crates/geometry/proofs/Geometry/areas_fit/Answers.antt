@@ -1,23 +1,25 @@
-use mathlib.Core.Path.{◌≡◌, sym, ◌∙◌}
-use mathlib.Core.Bool.{true}
+use mathlib.Core.Path.{sym, ◌∙◌}
+use mathlib.Core.Logic.{inl, inr}
 use Rattle.geometry.specs.View.{areas_fit}
-use Rattle.rules.specs.SuperBlock.{data_end, index_good}
+use Rattle.rules.specs.SuperBlock.{data_end}
+use Prim.Native.Nat.{◌<◌}
 use borrow.Author.Tests.{lt-leb, le-leb}
 use Rattle.geometry.proofs.Geometry.areas_fit.Goals as goal
-use Rattle.geometry.proofs.Geometry.areas_fit.Goals.{Else-not-index_good}
+use Rattle.geometry.proofs.Geometry.areas_fit.Goals.{then-index_good, else-index_good}
 
-pub returns-then-not-index_good : goal.returns-then-not-index_good
-unfolding areas_fit
-returns-then-not-index_good c = rw (sym c.index_good.ensures ∙ c.if-not-index_good.true)
-
-sized : (c : Else-not-index_good) → index_good c.args.self.index_bytes ≡ true
-sized c = sym c.index_good.ensures ∙ c.if-not-index_good.false
-
-pub returns-then-n-self : goal.returns-then-n-self
-unfolding areas_fit
-returns-then-n-self c = rw (sized (goal.at.returns-then-n-self c).Else-not-index_good, lt-leb _ _ c.if-n-self.true)
-
-pub returns : goal.returns
+pub returns-then-self-n : goal.returns-then-self-n
 unfolding areas_fit data_end
-returns c =
-    rw (sized (goal.at.returns c).Else-not-index_good, le-leb _ _ c.if-n-self.false, ← c.ceiling.ensures, ← c.data_start.ensures) c.has_room.ensures.value
+returns-then-self-n c =
+    let p = c.if-self-n.true in
+    rw (sym c.index_good.ensures ∙ p.0, le-leb _ _ p.1, ← c.ceiling.ensures, ← c.data_start.ensures) c.has_room.ensures.value
+
+pub returns-else-self-n : goal.returns-else-self-n
+unfolding areas_fit
+returns-else-self-n c =
+    elim c.if-index_good.branch [
+      | then-index_good w ↦
+          let g = sym c.index_good.ensures ∙ w.if-index_good.true in
+          let h : c.args.n < c.args.self.index_bytes = elim c.if-self-n.either [ inl p ↦ p.1 | inr e ↦ absurd (cc) ] in
+          rw (w.t-4-is, g, lt-leb _ _ h)
+      | else-index_good w ↦ let e = w.if-index_good.false in rw (w.t-4-is, e, sym c.index_good.ensures ∙ e)
+    ]

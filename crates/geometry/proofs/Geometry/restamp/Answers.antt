@@ -1,16 +1,17 @@
+use mathlib.Core.Logic.{inl, inr}
 use Rattle.rules.specs.SuperBlock.{restamp}
 use Rattle.rules.specs.Lists.{pick}
 use borrow.Author.Tests.{eq-eqb, ne_eqb}
 use Rattle.geometry.proofs.Geometry.restamp.Goals as goal
 
-pub returns-then-old-self : goal.returns-then-old-self
-unfolding restamp pick
-returns-then-old-self c = rw (ne_eqb _ _ c.if-old-self.true) c.stamped.ensures
-
 pub returns-then-old-self-2 : goal.returns-then-old-self-2
 unfolding restamp pick
-returns-then-old-self-2 c = rw (eq-eqb _ _ c.if-old-self.false, ne_eqb _ _ c.if-old-self-2.true) c.stamped-then-old-self-2.ensures
+returns-then-old-self-2 c =
+    elim c.if-old-self-2.either [
+      | inl d ↦ rw (ne_eqb _ _ d) c.stamped.ensures
+      | inr p ↦ rw (eq-eqb _ _ p.0, ne_eqb _ _ p.1) c.stamped.ensures
+    ]
 
-pub returns : goal.returns
+pub returns-else-old-self-2 : goal.returns-else-old-self-2
 unfolding restamp pick
-returns c = rw (eq-eqb _ _ c.if-old-self.false, eq-eqb _ _ c.if-old-self-2.false)
+returns-else-old-self-2 c = rw (eq-eqb _ _ c.if-old-self-2.false.0, eq-eqb _ _ c.if-old-self-2.false.1)
