@@ -1,13 +1,18 @@
 -- A line of which some was read: what is kept of it, and what feeding more comes to, whatever follows.
 use Prim.Native.Nat.{ℕ, zero, suc, ◌+◌, ◌-◌, ◌≤◌, ◌<◌}
-use Rattle.std.specs.Prelude.{◌≡◌, Bool, true, false, not, length, get_or, take, drop, set, eqb, leb}
+use Rattle.std.specs.Prelude.{◌≡◌, Bool, true, false, not, ◌||◌, length, get_or, take, drop, eqb, leb, min, Option, Some, None, IsSome, IsNone, IfSome, ◌==◌, position}
 use Rattle.std.proofs.Math.Path.{refl, sym}
-use Rattle.std.proofs.Common.{ap, ◌∙◌, add-one, arith, length-append, length-take, drop_of_length-le, take_all, take-suc-set, drop-cons}
+use Rattle.std.proofs.Common.{ap, ◌∙◌, add-one, append-nil, append_assoc, le_refl, arith, length-append, length-take, drop_of_length-le, take_all, drop-cons}
 use mathlib.Core.List.{List, [], ◌∷◌, ◌++◌}
 use Rattle.std.proofs.Math.Decide.{dec_le}
-use Rattle.std.proofs.Math.Seq.{take-nil}
-use Rattle.std.proofs.lemmas.List.{take-append-le}
-use borrow.Author.Tests.{eq-eqb, ne_eqb, le-leb, lt-leb}
+use Rattle.std.proofs.Math.Seq.{take-nil, take-length, take-append-add}
+use Rattle.std.proofs.lemmas.List.{take-append-le, take_min, drop-drop}
+use Rattle.std.proofs.lemmas.List.Quantifiers.{position-Some}
+use Rattle.std.proofs.lemmas.List.Sums.{fails_before_first}
+use Rattle.std.proofs.lemmas.Slice.{take-put_mid}
+use Rattle.std.specs.List.{position_or_len, list_any}
+use borrow.Rule.Slice.PartMut.{put_mid}
+use borrow.Author.Tests.{eq-eqb, ne_eqb, le-leb, lt-leb, lt-ltb}
 use Rattle.rules.specs.Lists.Laws.{clash, pick_true, pick-false, and_left, and_right}
 use Rattle.rules.specs.Fields.{has_zero}
 use Rattle.rules.specs.Report.{newline, lines_after, name_of_file}
@@ -25,22 +30,36 @@ pub record LineKept (p : List ℕ) (n : ℕ) (buffer : List ℕ) : Type 0 where
 pub holds-none : (buffer : List ℕ) → LineKept [] 0 buffer
 holds-none buffer = record { count = refl; bytes = refl }
 
--- ---- one byte more
-module _ (p : List ℕ) (n b : ℕ) (buffer : List ℕ) (long : 256 ≡ length buffer) (h : LineKept p n buffer) where
-  pub push_kept : n < length buffer → LineKept (p ++ (b ∷ [])) (n + 1) (set buffer n b)
-  push_kept l =
-      let short : length p < 256 = omega (arith, h.count, length-take 256 p) in
-      let whole : take 256 p ≡ p = take_all 256 p (omega arith) in
-      let same : take 256 (p ++ (b ∷ [])) ≡ p ++ (b ∷ []) = take_all 256 (p ++ (b ∷ [])) (omega (arith, length-append p (b ∷ []))) in
-      record {
-        count = omega (arith, h.count, ap length same, ap length whole, length-append p (b ∷ []));
-        bytes = ap (λ (k : ℕ). take k (set buffer n b)) (add-one n) ∙ take-suc-set buffer n b l ∙ ap (λ (t : List ℕ). t ++ (b ∷ [])) (h.bytes ∙ whole) ∙ sym same;
-      }
+-- ---- more bytes
+take-append : (n : ℕ) (xs ys : List ℕ) → take n (xs ++ ys) ≡ take n xs ++ take (n - length xs) ys
+take-append n xs ys = by (dec_le n (length xs))
+  where
+    by : Dec (n ≤ length xs) → take n (xs ++ ys) ≡ take n xs ++ take (n - length xs) ys
+    by (yes l) = rw (sub_none n (length xs) l, append-nil) (take-append-le n xs ys l)
+      where
+        sub_none : (a b : ℕ) → a ≤ b → a - b ≡ 0
+        sub_none a b l = omega arith
+    by (no l) = ap (λ k. take k (xs ++ ys)) (sym (past n (length xs) (omega arith))) ∙ take-append-add xs ys (n - length xs) ∙ ap (λ t. t ++ take (n - length xs) ys) (sym (take_all n xs (omega arith)))
+      where
+        past : (a b : ℕ) → b ≤ a → b + (a - b) ≡ a
+        past a b l = omega arith
 
-  pub push-full : length buffer ≤ n → LineKept (p ++ (b ∷ [])) n buffer
-  push-full l =
-      let same : take 256 (p ++ (b ∷ [])) ≡ take 256 p = take-append-le 256 p (b ∷ []) (omega (arith, h.count, length-take 256 p)) in
-      record { count = h.count ∙ ap length (sym same); bytes = h.bytes ∙ sym same }
+-- as many are kept as there is room for
+module _ (p more : List ℕ) (n : ℕ) (buffer : List ℕ) (long : 256 ≡ length buffer) (h : LineKept p n buffer) where
+  abbrev room : ℕ
+  room = min (length more) (length buffer - n)
+
+  pub kept-more : LineKept (p ++ more) (n + room) (put_mid n room buffer (take room more))
+  kept-more =
+      let count : n ≡ min 256 (length p) = h.count ∙ length-take 256 p in
+      record {
+        count = omega (arith, length-take 256 (p ++ more), length-append p more);
+        bytes =
+            take-put_mid n room buffer (take room more) (n + room) (omega (arith, length-take room more)) (omega arith)
+            ∙ ap (λ t. t ++ take room more) h.bytes
+            ∙ ap (λ t. take 256 p ++ t) (ap (λ k. take k more) {x = room} {y = min (256 - length p) (length more)} (omega arith) ∙ take_min (256 - length p) more)
+            ∙ sym (take-append 256 p more);
+      }
 
 -- ---- feeding
 -- the piece was used up: what follows goes on as before, with what was read of the line. Past the last line that is used nothing is read
@@ -57,109 +76,119 @@ pub record Ended (left : ℕ) (p bs rest : List ℕ) (n left' : ℕ) (buffer : L
 
 -- feeding a piece from a place on comes to one of the two
 pub record FedTo (left : ℕ) (p piece : List ℕ) (from : ℕ) (r : Fed) (buffer : List ℕ) : Type 0 where
-  pub ended : r.ended ≡ true → Ended left p (drop from piece) (drop r.at piece) r.length r.next.left buffer × (r.next.length ≡ 0)
-  pub going : r.ended ≡ false → GoesOn left p (drop from piece) r.next.length r.next.left buffer
+  pub ended : (k : ℕ) → r.line ≡ Some k → Ended left p (drop from piece) (drop r.at piece) k r.next.left buffer × (r.next.length ≡ 0)
+  pub going : r.line ≡ None → GoesOn left p (drop from piece) r.next.length r.next.left buffer
 
 -- how far it went in a piece of n bytes, and how many lines may be used then
 pub record GoneOn (left from : ℕ) (r : Fed) (n : ℕ) : Type 0 where
   pub inside : r.at ≤ n
-  pub ended : r.ended ≡ true → (from < r.at) × (r.next.left + 1 ≡ left)
-  pub going : r.ended ≡ false → (r.at ≡ n) × (r.next.left ≡ left)
-  pub few : (r.length ≤ 256) × (r.next.length ≤ 256)
+  pub ended : IsSome r.line → (from < r.at) × (r.next.left + 1 ≡ left)
+  pub going : IsNone r.line → (r.at ≡ n) × (r.next.left ≡ left)
+  pub few : IfSome r.line (λ k. k ≤ 256) × (r.next.length ≤ 256)
 
 -- the two answers
 pub record AllFed (at n left : ℕ) (r : Fed) : Type 0 where
   pub place : r.at ≡ at
-  pub still : r.ended ≡ false
-  pub count : (r.length ≡ n) × (r.next.length ≡ n)
+  pub still : r.line ≡ None
+  pub count : r.next.length ≡ n
   pub lines : r.next.left ≡ left
 
 pub record LineEnded (at n left : ℕ) (r : Fed) : Type 0 where
   pub place : r.at ≡ at
-  pub over : r.ended ≡ true
-  pub count : (r.length ≡ n) × (r.next.length ≡ 0)
+  pub over : r.line ≡ Some n
+  pub count : r.next.length ≡ 0
   pub lines : r.next.left ≡ left
 
--- on the way through the piece: so much was read of the line
-pub record SoFar (p bs rest : List ℕ) (n : ℕ) (buffer : List ℕ) : Type 0 where
-  pub read : List ℕ
-  pub holds : LineKept read n buffer
-  pub same : (more : List ℕ) → lines_after p (bs ++ more) ≡ lines_after read (rest ++ more)
+-- ---- up to the first newline, and past it
+abbrev pub newline_at : List ℕ → Option ℕ
+newline_at bs = position (λ b. b == newline) bs
 
-pub reads_first : (p bs : List ℕ) (n : ℕ) (buffer : List ℕ) → LineKept p n buffer → SoFar p bs bs n buffer
-reads_first p bs n buffer h = record { read = p; holds = h; same = λ more. refl }
+lines-byte : (q : List ℕ) (b : ℕ) (bs : List ℕ) → (b == newline) ≡ false → lines_after q (b ∷ bs) ≡ lines_after (q ++ (b ∷ [])) bs
+unfolding lines_after
+lines-byte q b bs d = pick-false _ _ d
+
+lines_end : (q : List ℕ) (b : ℕ) (bs : List ℕ) → (b == newline) ≡ true → lines_after q (b ∷ bs) ≡ q ∷ lines_after [] bs
+unfolding lines_after
+lines_end q b bs e = pick_true _ _ e
 
 drop_here : (s : List ℕ) (i : ℕ) → i < length s → drop i s ≡ get_or s i 0 ∷ drop (i + 1) s
 drop_here s i h = rw (add-one i) (drop-cons s i 0 h)
 
-lines-byte : (q : List ℕ) (b : ℕ) (bs : List ℕ) → (b ≡ newline → ⊥) → lines_after q (b ∷ bs) ≡ lines_after (q ++ (b ∷ [])) bs
-unfolding lines_after
-lines-byte q b bs d = pick-false _ _ (ne_eqb b newline d)
+drop_past : (s : List ℕ) (from i : ℕ) → drop (i + 1) (drop from s) ≡ drop (from + i + 1) s
+drop_past s from i = drop-drop (i + 1) from s ∙ ap (λ k. drop k s) {x = from + (i + 1)} {y = from + i + 1} (omega arith)
 
-lines_end : (q : List ℕ) (b : ℕ) (bs : List ℕ) → b ≡ newline → lines_after q (b ∷ bs) ≡ q ∷ lines_after [] bs
-unfolding lines_after
-lines_end q b bs e = pick_true _ _ (eq-eqb b newline e)
+-- the bytes of a part without newlines are read
+lines-part : (q bs more : List ℕ) (i : ℕ) → i ≤ length bs → ((k : ℕ) → k < i → (get_or bs k 0 == newline) ≡ false) → lines_after q (bs ++ more) ≡ lines_after (q ++ take i bs) (drop i bs ++ more)
+lines-part q bs more zero l d = rw (append-nil)
+lines-part q [] more (suc i) l d = absurd (omega arith)
+lines-part q (b ∷ bs) more (suc i) l d =
+    lines-byte q b (bs ++ more) (d 0 (omega arith))
+    ∙ lines-part (q ++ (b ∷ [])) bs more i (omega arith) (λ k m. d (suc k) (omega arith))
+    ∙ ap (λ t. lines_after t (drop i bs ++ more)) (append_assoc q (b ∷ []) (take i bs))
 
-module _ (p bs piece : List ℕ) (i n : ℕ) (buffer : List ℕ) (r : SoFar p bs (drop i piece) n buffer) (more : i < length piece) where
-  pub reads-next : (get_or piece i 0 ≡ newline → ⊥) → (m : ℕ) (after : List ℕ) → ((q : List ℕ) → LineKept q n buffer → LineKept (q ++ (get_or piece i 0 ∷ [])) m after)
-      → SoFar p bs (drop (i + 1) piece) m after
-  reads-next d m after push = record {
-    read = r.read ++ (get_or piece i 0 ∷ []);
-    holds = push r.read r.holds;
-    same = λ rest. r.same rest ∙ ap (λ (t : List ℕ). lines_after r.read (t ++ rest)) (drop_here piece i more) ∙ lines-byte r.read (get_or piece i 0) (drop (i + 1) piece ++ rest) d;
-  }
-
-  -- the line ends here
-  module _ (e : get_or piece i 0 ≡ newline) where
-    ends : (rest : List ℕ) → lines_after p (bs ++ rest) ≡ r.read ∷ lines_after [] (drop (i + 1) piece ++ rest)
-    ends rest = r.same rest ∙ ap (λ (t : List ℕ). lines_after r.read (t ++ rest)) (drop_here piece i more) ∙ lines_end r.read (get_or piece i 0) (drop (i + 1) piece ++ rest) e
-
-    ended-line : (left : ℕ) → (left ≡ 0 → ⊥) → Ended left p bs (drop (i + 1) piece) n (left - 1) buffer
-    ended-line zero h = absurd (h refl)
-    ended-line (suc left) h = record { line = r.read; holds = r.holds; first = λ rest. ap (take (suc left)) (ends rest) ∙ ap (λ (k : ℕ). r.read ∷ take k (lines_after [] (drop (i + 1) piece ++ rest))) {x = left} {y = suc left - 1} (omega arith) }
+no_newline : (bs : List ℕ) → newline_at bs ≡ None → (k : ℕ) → k < length bs → (get_or bs k 0 == newline) ≡ false
+no_newline bs e k l = by (dec_le (length bs) (position_or_len (λ b. b == newline) bs))
+  where
+    by : Dec (length bs ≤ position_or_len (λ b. b == newline) bs) → (get_or bs k 0 == newline) ≡ false
+    by (yes h) = fails_before_first (λ b. b == newline) bs k 0 (omega arith)
+    by (no h) = clash_some (position_or_len (λ b. b == newline) bs) (rw (lt-ltb (position_or_len (λ b. b == newline) bs) (length bs) (omega arith)) at e)
+      where
+        clash_some : (n : ℕ) → Some n ≡ None → (get_or bs k 0 == newline) ≡ false
+        clash_some n f = absurd (cc)
 
 -- ---- as it is answered
+-- a line that has ended is one that may be used
+less_one : (left : ℕ) (line : List ℕ) (names : List (List ℕ)) → (left ≡ 0 → ⊥) → take left (line ∷ names) ≡ line ∷ take (left - 1) names
+less_one zero line names some = absurd (some refl)
+less_one (suc left) line names some = ap (λ (k : ℕ). line ∷ take k names) {x = left} {y = suc left - 1} (omega arith)
+
+line_is_some : {A : Type 0} {n m : A} {x : Option A} → x ≡ Some n → x ≡ Some m → m ≡ n
+line_is_some e f = cc
+
+none_is_some : {A B : Type 0} {n : A} {x : Option A} → x ≡ None → x ≡ Some n → B
+none_is_some e f = absurd (cc)
+
 module _ (left : ℕ) (p piece : List ℕ) (from : ℕ) (buffer : List ℕ) (r : Fed) where
   -- no line is used any more
-  pub fed-unused : (at : ℕ) → left ≡ 0 → AllFed at 0 0 r → FedTo left p piece from r buffer
+  pub fed-unused : (at : ℕ) → left ≡ 0 → AllFed at 0 left r → FedTo left p piece from r buffer
   fed-unused at z a = record {
-    ended = λ t. clash (sym t ∙ a.still);
-    going = λ f. rw (z, a.count.1, a.lines) (record { read = []; holds = holds-none buffer; same = λ more. refl });
+    ended = λ k t. none_is_some a.still t;
+    going = λ f. rw (a.count, a.lines, z) (record { read = []; holds = holds-none buffer; same = λ more. refl });
   }
 
-  module _ (i n : ℕ) (reads : SoFar p (drop from piece) (drop i piece) n buffer) where
-    pub fed-end : i < length piece → get_or piece i 0 ≡ newline → (left ≡ 0 → ⊥) → LineEnded (i + 1) n (left - 1) r → FedTo left p piece from r buffer
-    fed-end more e some a = record {
-      ended = λ t. (rw (a.place, a.count.0, a.lines) (ended-line p (drop from piece) piece i n buffer reads more e left some), a.count.1);
-      going = λ f. clash (sym a.over ∙ f);
-    }
+  abbrev rest : List ℕ
+  rest = drop from piece
 
-    pub fed-all : length piece ≤ i → AllFed i n left r → FedTo left p piece from r buffer
-    fed-all none a = record {
-      ended = λ t. clash (sym t ∙ a.still);
-      going = λ f. rw (a.count.1, a.lines) (record {
-        read = reads.read;
-        holds = reads.holds;
-        same = λ more. ap (take left) (reads.same more ∙ ap (λ (t : List ℕ). lines_after reads.read (t ++ more)) (drop_of_length-le piece {i = i} none));
-      });
-    }
+  pub fed-end : (n i : ℕ) → newline_at rest ≡ Some i → LineKept (p ++ take i rest) n buffer → (left ≡ 0 → ⊥) → LineEnded (from + i + 1) n (left - 1) r → FedTo left p piece from r buffer
+  fed-end n i e kept some a =
+      let found = position-Some (λ b. b == newline) rest i 0 e in
+      record {
+        ended = λ k t.
+            rw (a.place, line_is_some a.over t, a.lines) (
+              record {
+                line = p ++ take i rest;
+                holds = kept;
+                first = λ more.
+                    ap (take left)
+                    (lines-part p rest more i (omega (arith, found.0)) found.2
+                    ∙ ap (λ t. lines_after (p ++ take i rest) (t ++ more)) (drop_here rest i found.0)
+                    ∙ lines_end (p ++ take i rest) (get_or rest i 0) (drop (i + 1) rest ++ more) found.1
+                    ∙ ap (λ t. (p ++ take i rest) ∷ lines_after [] (t ++ more)) (drop_past piece from i))
+                    ∙ less_one left (p ++ take i rest) (lines_after [] (drop (from + i + 1) piece ++ more)) some;
+              },
+              a.count,
+            );
+        going = λ f. none_is_some f a.over;
+      }
 
--- how far
-module _ (left from n : ℕ) (r : Fed) where
-  pub gone-all : (at k : ℕ) → at ≡ n → k ≤ 256 → AllFed at k left r → GoneOn left from r n
-  gone-all at k e h a = record {
-    inside = omega (arith, a.place);
-    ended = λ t. clash (sym t ∙ a.still);
-    going = λ f. (a.place ∙ e, a.lines);
-    few = (omega (arith, a.count), omega (arith, a.count));
-  }
-
-  pub gone-end : (i k : ℕ) → from ≤ i → i < n → k ≤ 256 → (left ≡ 0 → ⊥) → LineEnded (i + 1) k (left - 1) r → GoneOn left from r n
-  gone-end i k h l f some a = record {
-    inside = omega (arith, a.place);
-    ended = λ t. (omega (arith, a.place), omega (arith, a.lines, some));
-    going = λ g. clash (sym a.over ∙ g);
-    few = (omega (arith, a.count), omega (arith, a.count));
+  pub fed-all : (n : ℕ) → newline_at rest ≡ None → LineKept (p ++ rest) n buffer → AllFed (length piece) n left r → FedTo left p piece from r buffer
+  fed-all n none kept a = record {
+    ended = λ k t. none_is_some a.still t;
+    going = λ f. rw (a.count, a.lines) (record {
+      read = p ++ rest;
+      holds = kept;
+      same = λ more. ap (take left) (lines-part p rest more (length rest) (le_refl _) (no_newline rest none) ∙ rw (take-length rest, drop_of_length-le rest {i = length rest} (le_refl _)));
+    });
   }
 
 -- a name, by what is asked of it
@@ -175,6 +204,12 @@ module _ (s : List ℕ) where
   pub name_by : (length s ≡ 0 → ⊥) → length s ≤ 255 → not (has_zero s) ≡ name_of_file s
   unfolding name_of_file
   name_by d h = sym (rw (le-leb 1 (length s) (omega (arith, d)), le-leb (length s) 255 h))
+
+-- no byte is 0, as std asks it
+pub none_zero : (s : List ℕ) → list_any (λ y. eqb y 0) s ≡ has_zero s
+unfolding has_zero
+none_zero [] = refl
+none_zero (b ∷ bs) = ap (λ z. eqb b 0 || z) (none_zero bs)
 
 -- ---- at the end of the input
 pub record LastLine (left : ℕ) (r : Bool) (p : List ℕ) : Type 0 where
@@ -220,18 +255,3 @@ module _ (p : List ℕ) (n : ℕ) (buffer : List ℕ) (h : LineKept p n buffer) 
         where
           long : (q : List ℕ) → 255 < length q → name_of_file q ≡ false
           long q m = sym (name-long q m)
-
--- ---- a zero among the bytes from a place on
-module _ (s : List ℕ) (i : ℕ) where
-  pub zero-none : length s ≤ i → has_zero (drop i s) ≡ false
-  unfolding has_zero
-  zero-none h = rw (drop_of_length-le s {i = i} h)
-
-  module _ (more : i < length s) where
-    pub zero-here : get_or s i 0 ≡ 0 → has_zero (drop i s) ≡ true
-    unfolding has_zero
-    zero-here e = rw (drop_here s i more, eq-eqb (get_or s i 0) 0 e)
-
-    pub zero-next : (get_or s i 0 ≡ 0 → ⊥) → has_zero (drop (i + 1) s) ≡ has_zero (drop i s)
-    unfolding has_zero
-    zero-next d = sym (rw (drop_here s i more, ne_eqb (get_or s i 0) 0 d))

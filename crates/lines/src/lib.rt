@@ -4,9 +4,8 @@
 #![tactic(auto)]
 
 ghost use Rattle.std.specs.Prelude.{◌≡◌, List, [], ◌∷◌, ◌++◌, true, ℕ, ◌≤◌, ◌<◌, length};
-ghost use Rattle.rules.specs.Fields.{has_zero};
 ghost use Rattle.rules.specs.Report.{name_of_file};
-ghost use Rattle.lines.specs.Feeding.{LineKept, FedTo, GoneOn, AllFed, LineEnded, LastLine};
+ghost use Rattle.lines.specs.Feeding.{LineKept, FedTo, GoneOn, AllFed, LineEnded, LastLine, newline_at};
 
 // The bytes of a line that are kept.
 pub const KEPT: usize = 256;
@@ -24,12 +23,11 @@ pub struct Lines {
     pub left: u64,
 }
 
-// Where a piece goes on, and whether a line has ended before that place; how many bytes of the line are kept, and where feeding stands.
+// Where a piece goes on; how many bytes are kept of the line that has ended before that place, if one has; and where feeding stands.
 #[derive(Clone, Copy)]
 pub struct Fed {
     pub at: usize,
-    pub ended: bool,
-    pub length: usize,
+    pub line: Option<usize>,
     pub next: Lines,
 }
 
@@ -43,27 +41,13 @@ pub fn start() -> Lines
     }
 }
 
-// The line with one more byte; how many are kept then.
-fn push(line: &mut [u8], n: usize, b: u8) -> usize
-    requires { 256 ≡ length line.old }
-    ensures by_index { (p : List ℕ) → LineKept p n line.old → LineKept (p ++ (b ∷ [])) result line.new }
-    ensures few { n ≤ 256 → result ≤ 256 }
-{
-    if n < line.len() {
-        line[n] = b;
-        return n + 1;
-    }
-    n
-}
-
 // The piece is used up.
 fn all_fed(at: usize, n: usize, left: u64) -> Fed
     ensures { AllFed at n left result }
 {
     Fed {
         at,
-        ended: false,
-        length: n,
+        line: None,
         next: Lines { length: n, left },
     }
 }
@@ -74,10 +58,15 @@ fn line_ended(at: usize, n: usize, left: u64) -> Fed
 {
     Fed {
         at,
-        ended: true,
-        length: n,
+        line: Some(n),
         next: Lines { length: 0, left },
     }
+}
+
+fn newline_in(bytes: &[u8]) -> Option<usize>
+    ensures { result ≡ newline_at bytes.now }
+{
+    bytes.iter().position(|b| *b == b'\n')
 }
 
 // Feeds a piece from a place on, up to the end of a line or of the piece; past the last line that is used, all of it. `line` is the caller's to keep as it is between
@@ -87,21 +76,19 @@ pub fn feed(lines: Lines, piece: &[u8], from: usize, line: &mut [u8]) -> Fed
     ensures by_index { (p : List ℕ) → LineKept p lines.length line.old → FedTo lines.left p piece.now from result line.new }
     ensures on { GoneOn lines.left from result (length piece.now) }
 {
-    let left = lines.left;
-    if left == 0 {
+    if lines.left == 0 {
         return all_fed(piece.len(), 0, 0);
     }
-    let mut n = lines.length;
-    let mut i = from;
-    while i < piece.len() {
-        let b = piece[i];
-        i += 1;
-        if b == b'\n' {
-            return line_ended(i, n, left - 1);
-        }
-        n = push(line, n, b);
+    let rest = &piece[from..];
+    let newline = newline_in(rest);
+    let read = &rest[..newline.unwrap_or(rest.len())];
+    let n = lines.length;
+    let kept = n + read.len().min(line.len() - n);
+    line[n..kept].copy_from_slice(&read[..kept - n]);
+    match newline {
+        Some(i) => line_ended(from + i + 1, kept, lines.left - 1),
+        None => all_fed(piece.len(), kept, lines.left),
     }
-    all_fed(i, n, left)
 }
 
 // Whether what was read of a line when the input ended is the last one.
@@ -109,36 +96,17 @@ pub fn is_last(lines: Lines) -> bool
     ensures by_index { (p line : List ℕ) → LineKept p lines.length line → LastLine lines.left result p }
     ensures used { result ≡ true → 0 < lines.left }
 {
-    if lines.length == 0 {
-        return false;
-    }
-    lines.left != 0
+    lines.length != 0 && lines.left != 0
 }
 
 // ---- names
-
-fn has_zero(line: &[u8]) -> bool
-    ensures { result ≡ has_zero line.now }
-{
-    let mut i = 0;
-    while i < line.len() {
-        if line[i] == 0 {
-            return true;
-        }
-        i += 1;
-    }
-    false
-}
 
 // Whether a line is a name. What is kept of a longer one has 256 bytes, which are none (`kept-name`).
 pub fn is_name(line: &[u8]) -> bool
     ensures { result ≡ name_of_file line.now }
 {
-    if line.len() == 0 {
+    if line.is_empty() || LONGEST < line.len() {
         return false;
     }
-    if LONGEST < line.len() {
-        return false;
-    }
-    !has_zero(line)
+    !line.contains(&0)
 }
