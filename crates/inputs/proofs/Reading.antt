@@ -3,7 +3,10 @@ use Rattle.std.proofs.Common.{◌≡◌, ℕ, ◌+◌, ◌-◌, ◌≤◌, List,
 use Rattle.std.proofs.lemmas.List.{take-append-le}
 use Rattle.std.proofs.lemmas.Slice.{take-put_mid_below}
 use Rattle.std.specs.declared.option.Option.{Option}
-use Rattle.std.specs.Io.KnownBytes.{Consumes, Keeps}
+use Rattle.std.specs.Io.KnownBytes.{Consumes, Keeps, ReadConsumes}
+use Rattle.std.specs.Prelude.{Result, Ok, Err, IfOk, unwrap_or}
+use Rattle.std.specs.Result.{result_ok}
+use Rattle.std.specs.Counts.{IsPrefixLen}
 use Rattle.std.proofs.KnownBytes.{Consumes-trans, Consumes-kept}
 use borrow.Rule.Slice.PartMut.{put_mid, post_of}
 use Rattle.std.proofs.Math.Seq.{take-add}
@@ -33,3 +36,10 @@ module _ (at : ℕ) (s part : List ℕ) (within : at ≤ length s) where
 
   pub failed_read : (a b c : Option (List ℕ)) → Consumes a b (take at s) → Keeps b c → Consumes a c (take (at + 0) left)
   failed_read a b c first keeps = subst (Consumes a c) (sym same) (Consumes-kept a b c _ first keeps)
+
+-- a read, whatever came of it
+module _ {E : Type 0} (at : ℕ) (s part : List ℕ) (within : at ≤ length s) (a b c : Option (List ℕ)) where
+  pub read_once : (r : Result ℕ E) (o : Option ℕ) → o ≡ result_ok r → IfOk r (λ n. IsPrefixLen n part) → ReadConsumes b c r part → Consumes a b (take at s)
+      → Consumes a c (take (at + unwrap_or o 0) (put_mid at (length s - at) s part))
+  read_once (Ok n) o e bound bytes first = rw e (more_read at n s part within bound.0 a b c first bytes.0)
+  read_once (Err x) o e bound bytes first = rw e (failed_read at s part within a b c first bytes)
