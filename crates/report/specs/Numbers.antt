@@ -1,53 +1,67 @@
 -- A report as 27 numbers: its table and counts in them, and what is put back.
-use Rattle.std.specs.Prelude.{◌≡◌, ℕ, suc, ◌+◌, ◌<◌, ◌≤◌, List, [], ◌∷◌, ◌++◌, map, length, get_or, take, drop, set, slice_index, slice_index_or, slice_set, refl}
+use Rattle.std.specs.Prelude.{◌≡◌, ℕ, zero, suc, ◌+◌, ◌*◌, ◌^◌, ◌<◌, ◌≤◌, List, [], ◌∷◌, ◌++◌, map, length, take, drop, slice_index, slice_index_or, refl}
 use Rattle.std.proofs.Math.Path.{sym, ap, ap₂}
-use Rattle.std.proofs.Common.{◌∙◌, append-nil, append_assoc, arith, length-set, drop-cons, take_at, length-take-le, le-leb}
+use Rattle.std.proofs.Common.{◌∙◌, append-nil, append_assoc, add-one, arith, drop-drop, get_or-drop, length-drop, take_at, length-take-le, le-leb}
 use Rattle.std.proofs.Math.ListN.{length-append}
-use Rattle.std.proofs.Math.Seq.{drop-append_seam}
+use Rattle.std.proofs.lemmas.List.{take-take, drop-take}
+use Rattle.std.specs.Simd.{first_chunks}
 use Rattle.std.proofs.lemmas.Bool.{lt-leb}
 use Rattle.rules.specs.Lists.{part}
 use Rattle.rules.specs.Lists.Laws.{pick_true, pick-false}
 use Rattle.rules.specs.Fields.{splice}
-use Rattle.rules.specs.Fields.Laws.{splice-nil, splice-cons, length-splice}
+use Rattle.rules.specs.Fields.Laws.{length-splice}
 use Rattle.rules.specs.Text.{joined}
 use Rattle.rules.specs.Refusals.{Verdict, refused, accepted, Volume, judge_read}
 use Rattle.rules.specs.Report.{Table, image_sums, count_verdict, image, Report, no_report, with_image, with_source, report_from, report_in, report_numbers, verdict_number, CountedImage, count_image}
 use Rattle.laws.proofs.Report.Sums.{image-shaped}
-use Rattle.text.specs.Wrote.{Wrote}
 use Rattle.report.specs.Rows.{three, six, length_more}
-use Rattle.report.specs.Stored.{Stored, stored_row, stored-added, none-stored}
-use Rattle.report.specs.View.{report_view, counted_view}
+use Rattle.report.specs.Stored.{StoredRow, Stored, HeldTable, all-fits, stored_row, stored-held, stored-added, none-stored}
+use Rattle.report.specs.View.{as_report, counted_view}
 
 -- ---- read
-pub part-three : (s : List ℕ) (k : ℕ) → k + 3 ≤ length s → slice_index s k ∷ slice_index s (k + 1) ∷ slice_index s (k + 2) ∷ [] ≡ part s k 3
-unfolding part
-part-three s k h =
-    let a : k + 1 ≡ suc k = omega arith in
-    let b : k + 2 ≡ suc (suc k) = omega arith in
-    rw (a, b, drop-cons s k 0 (omega arith), drop-cons s (suc k) 0 (omega arith), drop-cons s (suc (suc k)) 0 (omega arith))
+take-chunks : (k : ℕ) (s : List ℕ) → first_chunks 3 k (take (3 * k) s) ≡ first_chunks 3 k s
+take-chunks zero s = refl
+take-chunks (suc k) s =
+    let three_more : 3 * suc k ≡ 3 + 3 * k = omega arith in
+    ap₂ (λ x t. x ∷ t)
+    (ap (λ n. take 3 (take n s)) three_more ∙ take-take 3 (3 + 3 * k) s (omega arith))
+    (ap (λ n. first_chunks 3 k (drop 3 (take n s))) three_more ∙ ap (first_chunks 3 k) (drop-take 3 (3 * k) s) ∙ take-chunks k (drop 3 s))
+
+pub rows-in : (s : List ℕ) → first_chunks 3 6 (take 18 s) ≡ (report_in s).table
+unfolding report_in part
+rows-in s = take-chunks 6 s ∙ simp drop-drop
+
+take-below : (n : ℕ) (s : List ℕ) → ((i : ℕ) → slice_index s i < 2 ^ 64) → (i : ℕ) → slice_index (take n s) i < 2 ^ 64
+take-below zero s h i = omega arith
+take-below (suc n) [] h i = omega arith
+take-below (suc n) (a ∷ s) h zero = h 0
+take-below (suc n) (a ∷ s) h (suc i) = take-below n s (λ j. h (suc j)) i
+
+module _ (s : List ℕ) (fits : (i : ℕ) → slice_index s i < 2 ^ 64) where
+  pub part-below : (k n i : ℕ) → slice_index (take n (drop k s)) i < 2 ^ 64
+  part-below k n = take-below n (drop k s) (λ i. rw (get_or-drop k s i 0) (fits (k + i)))
+
+  module _ (long : 27 ≤ length s) where
+    row_in : (k : ℕ) → k ≤ 15 → StoredRow (part s k 3)
+    unfolding part
+    row_in k h = record { long = length-take-le 3 (drop k s) (omega (arith, length-drop k s)); fits = all-fits (take 3 (drop k s)) (part-below k 3) }
+
+    pub stored-in : HeldTable (report_in s).table
+    unfolding report_in
+    stored-in = stored-held (report_in s).table (record {
+      long = refl;
+      rows = (row_in 0 (omega arith), (row_in 3 (omega arith), (row_in 6 (omega arith), (row_in 9 (omega arith), (row_in 12 (omega arith), (row_in 15 (omega arith), tt))))));
+    })
 
 -- ---- put back
-module _ (s : List ℕ) (at : ℕ) (row : List ℕ) (long : length row ≡ 3) (fits : at + 3 ≤ length s) where
-  pub row_put : set (slice_set (slice_set s at (slice_index row 0)) (at + 1) (slice_index row 1)) (at + 2) (slice_index row 2) ≡ splice s at row
-  row_put =
-      let a : ℕ = get_or row 0 0 in
-      let b : ℕ = get_or row 1 0 in
-      let c : ℕ = get_or row 2 0 in
-      let l₁ : length (slice_set s at a) ≡ length s = length-set s at a in
-      let l₂ : length (slice_set (slice_set s at a) (at + 1) b) ≡ length s = length-set (slice_set s at a) (at + 1) b ∙ l₁ in
-      let e : at + 1 + 1 ≡ at + 2 = omega arith in
-      sym (
-      ap (splice s at) (three row long)
-      ∙ splice-cons s at a (b ∷ c ∷ []) (omega arith)
-      ∙ splice-cons (slice_set s at a) (at + 1) b (c ∷ []) (omega arith)
-      ∙ splice-cons (slice_set (slice_set s at a) (at + 1) b) (at + 1 + 1) c [] (omega arith)
-      ∙ splice-nil _ _
-      ∙ ap (λ (k : ℕ). set (slice_set (slice_set s at a) (at + 1) b) k c) e
-      )
-
-  -- as a writing
-  pub row_wrote : (t : List ℕ) (end : ℕ) → t ≡ splice s at row → end ≡ at + 3 → Wrote s at row t end
-  row_wrote t end e f = (e, omega arith)
+-- the rows up to one, and with that one
+pub joined-more : (t : Table) (k : ℕ) → k < length t → joined (take (k + 1) t) ≡ joined (take k t) ++ slice_index_or t k []
+joined-more t k h = ap (λ n. joined (take n t)) (add-one k) ∙ by t k h
+  where
+    by : (t : Table) (k : ℕ) → k < length t → joined (take (suc k) t) ≡ joined (take k t) ++ slice_index_or t k []
+    by [] k h = absurd (omega arith)
+    by (r ∷ t) zero h = append-nil r
+    by (r ∷ t) (suc k) h = ap (λ x. r ++ x) (by t k (omega arith)) ∙ sym (append_assoc r (joined (take k t)) (slice_index_or t k []))
 
 pub rows-joined : (t : Table) → length t ≡ 6
     → slice_index_or t 0 [] ++ (slice_index_or t 1 [] ++ (slice_index_or t 2 [] ++ (slice_index_or t 3 [] ++ (slice_index_or t 4 [] ++ slice_index_or t 5 [])))) ≡ joined t
@@ -67,33 +81,15 @@ joined-long t p =
       (stored_row t p 5 (omega arith)).long,
     ))
 
--- what was put behind, and then in front of it
-put_both : (s xs ys : List ℕ) → length xs + length ys ≤ length s → splice (splice s (length xs) ys) 0 xs ≡ splice s 0 (xs ++ ys)
-unfolding splice
-put_both s xs ys h =
-    let l : length (take (length xs) s) ≡ length xs = length-take-le (length xs) s (omega arith) in
-    let n : 0 + length xs ≡ length (take (length xs) s) = omega (arith, l) in
-    let m : length xs + length ys ≡ 0 + length (xs ++ ys) = omega (arith, length-append xs ys) in
-    ap (λ (t : List ℕ). xs ++ t)
-    (ap (λ (k : ℕ). drop k (take (length xs) s ++ (ys ++ drop (length xs + length ys) s))) n
-    ∙ drop-append_seam (take (length xs) s) (ys ++ drop (length xs + length ys) s))
-    ∙ sym (append_assoc xs ys (drop (length xs + length ys) s))
-    ∙ ap (λ (k : ℕ). (xs ++ ys) ++ drop k s) m
-
 -- ---- the call
 module _ (s ns : List ℕ) where
   pub image-short : length ns < 27 → counted_view 18 ns ≡ count_image s ns
   unfolding count_image
   image-short h = sym (pick-false _ _ (lt-leb 27 (length ns) h))
 
-  module _ (long : 27 ≤ length ns) (t : Table) (cs : List ℕ) (same : report_view t cs ≡ with_image s (report_in ns)) (stored : Stored t) (nine : length cs ≡ 9) where
-    pub image-counted : (r : ℕ) → r ≡ verdict_number (judge_read s) → (after : List ℕ) → after ≡ splice (splice ns 18 cs) 0 (joined t) → counted_view r after ≡ count_image s ns
-    unfolding count_image report_numbers
-    image-counted r e after f =
-        let n : length (joined t) ≡ 18 = joined-long t stored in
-        let put : after ≡ splice ns 0 (report_numbers (with_image s (report_in ns))) =
-        f ∙ ap (λ (k : ℕ). splice (splice ns k cs) 0 (joined t)) (sym n) ∙ put_both ns (joined t) cs (omega arith) ∙ ap (λ (x : Report). splice ns 0 (report_numbers x)) same in
-        ap₂ counted_view e put ∙ sym (pick_true _ _ (le-leb 27 (length ns) long))
+  pub image-counted : 27 ≤ length ns → (r : ℕ) → r ≡ verdict_number (judge_read s) → (after : List ℕ) → after ≡ splice ns 0 (report_numbers (with_image s (report_in ns))) → counted_view r after ≡ count_image s ns
+  unfolding count_image
+  image-counted long r e after f = ap₂ counted_view e f ∙ sym (pick_true _ _ (le-leb 27 (length ns) long))
 
 -- ---- ONE IMAGE AFTER THE OTHER: numbers that begin as zeros hold, after any list of images, the report on them
 -- what was put into the numbers is read from them again
@@ -109,15 +105,15 @@ module _ (a b c d e f : List ℕ) (la : length a ≡ 3) (lb : length b ≡ 3) (l
   unfolding part
   counts-back = rw (three a la, three b lb, three c lc, three d ld, three e le, three f lf) (take_at cs rest 9 nine)
 
-  report-back : report_in all ≡ report_view (a ∷ b ∷ c ∷ d ∷ e ∷ f ∷ []) cs
+  report-back : report_in all ≡ as_report (a ∷ b ∷ c ∷ d ∷ e ∷ f ∷ []) cs
   unfolding report_in
-  report-back = ap₂ report_view rows_back counts-back
+  report-back = ap₂ as_report rows_back counts-back
 
 joined-rest : (a b c d e f cs rest : List ℕ) → (a ++ (b ++ (c ++ (d ++ (e ++ f))))) ++ cs ++ rest ≡ a ++ (b ++ (c ++ (d ++ (e ++ (f ++ (cs ++ rest))))))
 joined-rest a b c d e f cs rest = simp append_assoc
 
 module _ (ns : List ℕ) (t : Table) (cs : List ℕ) (stored : Stored t) (nine : length cs ≡ 9) where
-  numbers-back : report_in (splice ns 0 (report_numbers (report_view t cs))) ≡ report_view t cs
+  numbers-back : report_in (splice ns 0 (report_numbers (as_report t cs))) ≡ as_report t cs
   unfolding splice report_numbers
   numbers-back =
       let rest : List ℕ = drop (0 + length (joined t ++ cs)) ns in
@@ -125,7 +121,7 @@ module _ (ns : List ℕ) (t : Table) (cs : List ℕ) (stored : Stored t) (nine :
       ap (λ (xs : List ℕ). report_in ((xs ++ cs) ++ rest)) (sym (rows-joined t stored.long))
       ∙ ap report_in (joined-rest (slice_index_or t 0 []) (slice_index_or t 1 []) (slice_index_or t 2 []) (slice_index_or t 3 []) (slice_index_or t 4 []) (slice_index_or t 5 []) cs rest)
       ∙ report-back (slice_index_or t 0 []) (slice_index_or t 1 []) (slice_index_or t 2 []) (slice_index_or t 3 []) (slice_index_or t 4 []) (slice_index_or t 5 []) (q 0 (omega arith)) (q 1 (omega arith)) (q 2 (omega arith)) (q 3 (omega arith)) (q 4 (omega arith)) (q 5 (omega arith)) cs rest nine
-      ∙ ap (λ (u : Table). report_view u cs) (sym (six t stored.long))
+      ∙ ap (λ (u : Table). as_report u cs) (sym (six t stored.long))
 
 counted-numbers : (s ns : List ℕ) → 27 ≤ length ns → (count_image s ns).numbers ≡ splice ns 0 (report_numbers (with_image s (report_in ns)))
 unfolding count_image

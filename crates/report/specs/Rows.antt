@@ -1,7 +1,7 @@
 -- Rows, tables and counts by their elements.
 use Rattle.std.specs.Prelude.{◌≡◌, ℕ, zero, suc, ◌<◌, List, [], ◌∷◌, length, ◌≢◌, slice_index, slice_index_or, slice_set, refl}
 use Rattle.std.proofs.Common.{ap, arith}
-use borrow.Author.Tests.{eq-eqb, ne_eqb}
+use borrow.Author.Tests.{ne_eqb}
 use Rattle.rules.specs.Lists.{both, pick}
 use Rattle.rules.specs.Index.{type_file, type_deleted_file, type_directory, type_deleted_directory}
 use Rattle.rules.specs.Index.Walk.{pick-both}
@@ -44,29 +44,9 @@ length_more (c ∷ cs) zero = refl
 length_more (c ∷ cs) (suc n) = ap suc (length_more cs n)
 
 -- ---- kinds
-module _ (t : ℕ) where
-  pub kind-file : t ≡ type_file → 0 ≡ entry_kind t
-  unfolding entry_kind pick
-  kind-file e = rw (eq-eqb t type_file e)
-
-  module _ (a : t ≡ type_file → ⊥) where
-    pub kind-deleted-file : t ≡ type_deleted_file → 1 ≡ entry_kind t
-    unfolding entry_kind pick
-    kind-deleted-file e = rw (ne_eqb t type_file a, eq-eqb t type_deleted_file e)
-
-    module _ (b : t ≡ type_deleted_file → ⊥) where
-      pub kind-directory : t ≡ type_directory → 2 ≡ entry_kind t
-      unfolding entry_kind pick
-      kind-directory e = rw (ne_eqb t type_file a, ne_eqb t type_deleted_file b, eq-eqb t type_directory e)
-
-      module _ (c : t ≡ type_directory → ⊥) where
-        pub kind-deleted-directory : t ≡ type_deleted_directory → 3 ≡ entry_kind t
-        unfolding entry_kind pick
-        kind-deleted-directory e = rw (ne_eqb t type_file a, ne_eqb t type_deleted_file b, ne_eqb t type_directory c, eq-eqb t type_deleted_directory e)
-
-        pub kind-other : (t ≢ type_deleted_directory) → 4 ≡ entry_kind t
-        unfolding entry_kind pick
-        kind-other d = rw (ne_eqb t type_file a, ne_eqb t type_deleted_file b, ne_eqb t type_directory c, ne_eqb t type_deleted_directory d)
+pub kind-other : (t : ℕ) → (t ≢ type_file) → (t ≢ type_deleted_file) → (t ≢ type_directory) → (t ≢ type_deleted_directory) → 4 ≡ entry_kind t
+unfolding entry_kind pick
+kind-other t a b c d = rw (ne_eqb t type_file a, ne_eqb t type_deleted_file b, ne_eqb t type_directory c, ne_eqb t type_deleted_directory d)
 
 pub kind-low : (t : ℕ) → entry_kind t < 6
 unfolding entry_kind

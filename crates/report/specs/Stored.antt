@@ -1,13 +1,6 @@
 -- A table as it is stored: six rows of three numbers of 64 bits. Counting keeps it so, and such a table with nothing added is itself.
-use Rattle.std.specs.Prelude.{◌≡◌, ℕ, zero, suc, ◌+◌, ◌-◌, ◌%◌, ◌^◌, ◌<◌, List, [], ◌∷◌, length, replicate, slice_index, slice_index_or, slice_set, refl}
+use Rattle.std.specs.Prelude.{◌≡◌, ℕ, zero, suc, ◌+◌, ◌%◌, ◌^◌, ◌<◌, List, [], ◌∷◌, length, replicate, slice_index, slice_index_or, slice_set, refl}
 use Rattle.std.proofs.Common.{ap, ap₂, ◌∙◌, add-zero, mod-lt, mod-eq_of_lt, arith, length-set}
-use Rattle.std.specs.Int.{w64}
-use mir.Val.{Val}
-use denote.Laws.{Is}
-use denote.Plain.{UInt}
-use denote.Shadow.{shadow}
-use denote.Array.{Array, each, in_array}
-use borrow.Author.Rules.{elem_Fits}
 use Rattle.rules.specs.Lists.{both, only, sum, All}
 use Rattle.rules.specs.Report.{Table, sums_of, sums_of_kind, plus64, added}
 use Rattle.laws.proofs.Lists.Every.{all-weaken}
@@ -23,22 +16,28 @@ pub record Stored (t : Table) : Type 0 where
   pub long : length t ≡ 6
   pub rows : All StoredRow t
 
--- ---- of an array
-all-fits : (r : List ℕ) → ((i : ℕ) → slice_index r i < 2 ^ 64) → All (λ n. n < 2 ^ 64) r
+-- ---- the same, place by place: what a report holds of its table
+abbrev pub HeldTable : Table → Type 0
+HeldTable t = (length t ≡ 6) × ((k : ℕ) → k < 6 → (length (slice_index_or t k []) ≡ 3) × ((i : ℕ) → slice_index (slice_index_or t k []) i < 2 ^ 64))
+
+pub all-fits : (r : List ℕ) → ((i : ℕ) → slice_index r i < 2 ^ 64) → All (λ n. n < 2 ^ 64) r
 all-fits [] h = tt
 all-fits (n ∷ r) h = (h 0, all-fits r (λ i. h (suc i)))
 
-pub row-held : (r : List ℕ) (vs : List Val) → Is (Array (UInt w64) 3) r vs → StoredRow r
-row-held r vs p = record { long = p.1.0.1; fits = all-fits r (λ i. (elem_Fits w64 w64 r p.0 i p.1.1 tt).fits) }
+pub at-fits : (r : List ℕ) → All (λ n. n < 2 ^ 64) r → (i : ℕ) → slice_index r i < 2 ^ 64
+at-fits [] h i = omega arith
+at-fits (n ∷ r) h zero = h.0
+at-fits (n ∷ r) h (suc i) = at-fits r h.1 i
 
-rows-held : (t : Table) (us : List Val) → shadow (each (List ℕ) (in_array ℕ (UInt w64).own_val 3) t us) → All StoredRow t
-rows-held [] [] p = tt
-rows-held [] (u ∷ us) p = absurd p
-rows-held (r ∷ t) [] p = absurd p
-rows-held (r ∷ t) (u ∷ us) p = (row-held r (u ∷ []) p.0, rows-held t us p.1)
+rows-all : (t : Table) → ((k : ℕ) → k < length t → StoredRow (slice_index_or t k [])) → All StoredRow t
+rows-all [] h = tt
+rows-all (r ∷ t) h = (h 0 (omega arith), rows-all t (λ k l. h (suc k) (omega arith)))
 
-pub table-held : (t : Table) (vs : List Val) → Is (Array (Array (UInt w64) 3) 6) t vs → Stored t
-table-held t vs p = record { long = p.1.0.1; rows = rows-held t p.0 p.1.1 }
+pub held-stored : (t : Table) → HeldTable t → Stored t
+held-stored t h = record {
+  long = h.0;
+  rows = rows-all t (λ k l. let p = h.1 k (omega (arith, h.0)) in record { long = p.0; fits = all-fits (slice_index_or t k []) p.1 });
+}
 
 -- ---- counting keeps it
 plus-fits : (r q : List ℕ) → All (λ n. n < 2 ^ 64) (both plus64 r q)
@@ -59,6 +58,9 @@ row_at (q ∷ t) (suc k) h l = row_at t k h.1 (omega arith)
 
 pub stored_row : (t : Table) → Stored t → (k : ℕ) → k < 6 → StoredRow (slice_index_or t k [])
 stored_row t p k l = row_at t k p.rows (omega (arith, p.long))
+
+pub stored-held : (t : Table) → Stored t → HeldTable t
+stored-held t p = (p.long, λ k l. let r = stored_row t p k l in (r.long, at-fits (slice_index_or t k []) r.fits))
 
 pub stored-counted : (t : Table) → Stored t → (k : ℕ) → k < 6 → (row : List ℕ) → length row ≡ 3 → Stored (counted_at t k row)
 stored-counted t p k l row h = record {

@@ -1,17 +1,16 @@
 -- The text as its writers cut it, and how long it is.
-use Rattle.std.specs.Prelude.{◌≡◌, ℕ, zero, suc, ◌+◌, ◌*◌, ◌^◌, ◌<◌, ◌≤◌, List, [], ◌∷◌, ◌++◌, length, drop, slice_index}
+use Rattle.std.specs.Prelude.{◌≡◌, ℕ, suc, ◌+◌, ◌*◌, ◌^◌, ◌<◌, ◌≤◌, List, [], ◌∷◌, ◌++◌, length, drop, slice_index}
 use Rattle.std.proofs.Math.Path.{refl, sym}
 use Rattle.std.proofs.Common.{ap, ◌∙◌, append-nil, append_assoc, arith, length-append, length-drop, drop_of_length-le, drop-cons, get_or-drop, eq-eqb, ne_eqb}
 use Rattle.std.proofs.Math.Numerals.{add-one}
 use Rattle.std.proofs.Math.Decide.{dec_le}
-use Rattle.rules.specs.Lists.{All}
 use Rattle.rules.specs.Lists.Laws.{pick_true, pick-false}
 use Rattle.rules.specs.Text.{text, decimal}
 use Rattle.rules.specs.Text.Laws.{decimal-64}
 use Rattle.rules.specs.Report.{Table, numbers_line, table_lines, kind_words, pairs, count_lines, report_text}
 use Rattle.report.specs.Rows.{three, six}
-use Rattle.report.specs.Stored.{StoredRow, Stored, stored_row}
-use Rattle.report.specs.View.{report_view, row_text, kind_text, upper_text, lower_text, pair_text}
+use Rattle.report.specs.Stored.{StoredRow, Stored, stored_row, at-fits}
+use Rattle.report.specs.View.{as_report, row_text, kind_text, upper_text, lower_text, pair_text}
 
 -- ---- a row
 abbrev pub spaced : ℕ → List ℕ
@@ -86,11 +85,6 @@ module _ (cs : List ℕ) (some : 0 < length cs) where
   counts-length = ap length counts-text ∙ simp length-append (omega arith)
 
 -- ---- all of it fits
-at-fits : (cs : List ℕ) → All (λ n. n < 2 ^ 64) cs → (i : ℕ) → slice_index cs i < 2 ^ 64
-at-fits [] h i = omega arith
-at-fits (c ∷ cs) h zero = h.0
-at-fits (c ∷ cs) h (suc i) = at-fits cs h.1 i
-
 row-most : (word row : List ℕ) → StoredRow row → length (row_text word row) ≤ length word + 64
 row-most word row r =
     omega (arith, row-length word row r.long, decimal-64 _ (at-fits row r.fits 0), decimal-64 _ (at-fits row r.fits 1), decimal-64 _ (at-fits row r.fits 2))
@@ -126,6 +120,6 @@ report-fits t cs p l f =
       length-drop 1 cs,
     )
 
-pub text-length : (t : Table) (cs : List ℕ) → length (report_text (report_view t cs)) ≡ length (table_lines kind_words t) + length (count_lines cs)
+pub text-length : (t : Table) (cs : List ℕ) → length (report_text (as_report t cs)) ≡ length (table_lines kind_words t) + length (count_lines cs)
 unfolding report_text
 text-length t cs = length-append (table_lines kind_words t) (count_lines cs)

@@ -1,11 +1,26 @@
--- A report as the code holds it: the table by value, the counts lent; and the text as its writers cut it.
+-- A report as the code holds it, and the text as its writers cut it.
 use Rattle.std.specs.Prelude.{ℕ, List, [], ◌++◌, ◌==◌, slice_index_or}
 use Rattle.rules.specs.Lists.{pick}
 use Rattle.rules.specs.Text.{text, decimal}
+use Rattle.report.specs.declared.held.Report.{Report as Held}
+use Rattle.report.specs.declared.Kind.{Kind}
+use Rattle.report.specs.declared.Kind.TheVariants.{File, DeletedFile, Directory, DeletedDirectory, Unusable, Unused}
 use Rattle.rules.specs.Report.{Table, Report, CountedImage, numbers_line}
 
-abbrev pub report_view : Table → List ℕ → Report
-report_view t counts = record { table = t; counts = counts }
+abbrev pub as_report : Table → List ℕ → Report
+as_report t counts = record { table = t; counts = counts }
+
+abbrev pub report_view : Held → Report
+report_view r = as_report r.table r.counts
+
+-- the place of a kind in a table
+abbrev pub kind_place : Kind → ℕ
+kind_place File = 0
+kind_place DeletedFile = 1
+kind_place Directory = 2
+kind_place DeletedDirectory = 3
+kind_place Unusable = 4
+kind_place Unused = 5
 
 abbrev pub counted_view : ℕ → List ℕ → CountedImage
 counted_view r ns = record { answer = r; numbers = ns }

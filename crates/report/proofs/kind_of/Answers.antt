@@ -1,19 +1,24 @@
-use Rattle.std.proofs.Common.{arith}
-use Rattle.report.specs.Rows.{kind-file, kind-deleted-file, kind-directory, kind-deleted-directory, kind-other}
+use Rattle.std.proofs.Common.{refl, arith}
+use Rattle.rules.specs.Report.{entry_kind}
+use Rattle.rules.specs.Lists.{pick}
+use Rattle.report.specs.Rows.{kind-other}
 use Rattle.report.proofs.kind_of.Goals as goal
 
-pub returns-then-kind-eq-FILE : goal.returns-then-kind-eq-FILE
-returns-then-kind-eq-FILE c = (kind-file _ c.if-kind-eq-FILE.true, omega arith)
+pub returns-in-18 : goal.returns-in-18
+unfolding entry_kind pick
+returns-in-18 c = rw c.in-18.is refl
 
-pub returns-then-kind-eq-DELETED_FILE : goal.returns-then-kind-eq-DELETED_FILE
-returns-then-kind-eq-DELETED_FILE c = (kind-deleted-file _ c.if-kind-eq-FILE.false c.if-kind-eq-DELETED_FILE.true, omega arith)
+pub returns-in-26 : goal.returns-in-26
+unfolding entry_kind pick
+returns-in-26 c = rw c.in-26.is refl
 
-pub returns-then-kind-eq-DIRECTORY : goal.returns-then-kind-eq-DIRECTORY
-returns-then-kind-eq-DIRECTORY c = (kind-directory _ c.if-kind-eq-FILE.false c.if-kind-eq-DELETED_FILE.false c.if-kind-eq-DIRECTORY.true, omega arith)
+pub returns-in-17 : goal.returns-in-17
+unfolding entry_kind pick
+returns-in-17 c = rw c.in-17.is refl
 
-pub returns-then-kind-eq-DELETED_DIRECTORY : goal.returns-then-kind-eq-DELETED_DIRECTORY
-returns-then-kind-eq-DELETED_DIRECTORY c =
-    (kind-deleted-directory _ c.if-kind-eq-FILE.false c.if-kind-eq-DELETED_FILE.false c.if-kind-eq-DIRECTORY.false c.if-kind-eq-DELETED_DIRECTORY.true, omega arith)
+pub returns-in-25 : goal.returns-in-25
+unfolding entry_kind pick
+returns-in-25 c = rw c.in-25.is refl
 
-pub returns : goal.returns
-returns c = (kind-other _ c.if-kind-eq-FILE.false c.if-kind-eq-DELETED_FILE.false c.if-kind-eq-DIRECTORY.false c.if-kind-eq-DELETED_DIRECTORY.false, omega arith)
+pub returns-in_default : goal.returns-in_default
+returns-in_default c = kind-other _ (omega arith) (omega arith) (omega arith) (omega arith)

@@ -1,12 +1,12 @@
-use Rattle.std.proofs.Common.{sym, ap}
+use Rattle.std.proofs.Common.{rules, sym, ap, ◌∙◌}
 use Rattle.rules.specs.Report.{verdict_number}
 use Rattle.judging.specs.View.{judged_view}
 use Rattle.report.proofs.refusal_of.Goals as goal
 
-pub returns-in-Refused : goal.returns-in-Refused
+pub returns-in-Err : goal.returns-in-Err
 unfolding verdict_number judged_view
-returns-in-Refused c s = sym (ap (λ j. verdict_number (judged_view s j)) c.in-Refused.is)
+returns-in-Err c s = c.from.ensures ∙ sym (ap (λ j. verdict_number (judged_view s j)) c.in-Err.is)
 
-pub returns-in-Good : goal.returns-in-Good
+pub returns-in-Ok : goal.returns-in-Ok
 unfolding verdict_number judged_view
-returns-in-Good c s = sym (ap (λ j. verdict_number (judged_view s j)) c.in-Good.is)
+returns-in-Ok c s = search rules

@@ -1,5 +1,0 @@
-use Rattle.report_main.proofs.Reading.{more_read}
-use Rattle.report_main.proofs.read_more.Goals as goal
-
-pub returns-in-Ok-clause-read : goal.returns-in-Ok-clause-read
-returns-in-Ok-clause-read g c a first = more_read _ _ _ _ c.requires c.in-Ok.ensures.bound.0 a _ _ first c.in-Ok.ensures.bytes.0
