@@ -67,13 +67,9 @@ fn identifier_good(img: &[u8], ed: Edition) -> bool
     ensures { result ≡ identifier_good (edition_view ed) img.now }
 {
     let at = identifier(img);
-    if slots::kind_at(img, at) != slots::IDENTIFIER {
-        return false;
-    }
-    if !slots::sum_good(img, ed, at, 1) {
-        return false;
-    }
-    names::volume_field_good(volume_field(img))
+    slots::kind_at(img, at) == slots::IDENTIFIER
+        && slots::sum_good(img, ed, at, 1)
+        && names::volume_field_good(volume_field(img))
 }
 
 // The identifier at `at`, and its sum last. Its type and the zeros up to its stamp are one number.
@@ -81,7 +77,7 @@ fn put_identifier(img: &mut [u8], ed: Edition, at: Offset, stamp: u64, name: &[u
     requires { (at.0 + 64 ≤ length img.old) × (length name.now ≤ 52) }
     ensures { img.new ≡ splice img.old at.0 (identifier_bytes (edition_view ed) (signed_of stamp) name.now) }
 {
-    fields::put_le(img, at, STAMP as usize, fields::wide(slots::IDENTIFIER));
+    fields::put_le(img, at, STAMP as usize, u64::from(slots::IDENTIFIER));
     fields::put_stamp(img, at.after(STAMP), stamp);
     copying::write_part(img, at.after(NAME), at.after_slots(1), name);
     runs::seal(img, ed, at, 1);
@@ -95,10 +91,7 @@ fn marker_good(img: &[u8], g: Geometry) -> bool
     ensures { result ≡ marker_good img.now (geometry_view g) }
 {
     let at = units::index_start(img.len() as u64, g.index_bytes);
-    if slots::kind_at(img, at) != slots::MARKER {
-        return false;
-    }
-    slots::sum_good(img, g.edition, at, 1)
+    slots::kind_at(img, at) == slots::MARKER && slots::sum_good(img, g.edition, at, 1)
 }
 
 // It moves with the index's start.
@@ -119,10 +112,7 @@ pub fn are_good(img: &[u8], g: Geometry) -> bool
     requires { (64 ≤ g.index_bytes) × (g.index_bytes ≤ length img.now) }
     ensures { result ≡ (marker_good img.now (geometry_view g) && identifier_good (edition_view g.edition) img.now) }
 {
-    if !marker_good(img, g) {
-        return false;
-    }
-    identifier_good(img, g.edition)
+    marker_good(img, g) && identifier_good(img, g.edition)
 }
 
 // The ends of an index that has no slot between them.

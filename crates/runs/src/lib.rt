@@ -26,7 +26,7 @@ pub fn seal(img: &mut [u8], ed: Edition, at: Offset, slots: u64)
 {
     if 0 < ed.sum_length() {
         let sum = fields::checksum(slots::bytes_of(img, at, slots));
-        fields::put_le(img, at.after(SUM), 1, fields::wide(sum));
+        fields::put_le(img, at.after(SUM), 1, u64::from(sum));
     }
 }
 
@@ -45,7 +45,7 @@ fn put_type(img: &mut [u8], ed: Edition, at: Offset, kind: u8)
     requires { at.0 + 64 ≤ length img.old }
     ensures { img.new ≡ splice img.old at.0 (kind ∷ replicate (sum_length (edition_view ed)) 0) }
 {
-    fields::put_le(img, at, (1 + ed.sum_length()) as usize, fields::wide(kind));
+    fields::put_le(img, at, (1 + ed.sum_length()) as usize, u64::from(kind));
 }
 
 // Kind, count of continuing slots and stamp.
@@ -101,7 +101,7 @@ pub fn retype(img: &mut [u8], ed: Edition, at: Offset, kind: u8, stamp: u64)
     requires { at.0 + 64 ≤ length img.old }
     ensures { img.new ≡ retyped (edition_view ed) img.old at.0 kind (signed_of stamp) }
 {
-    fields::put_le(img, at, 1, fields::wide(kind));
+    fields::put_le(img, at, 1, u64::from(kind));
     fields::put_stamp(img, field(ed, at, slots::STAMP), stamp);
 }
 
@@ -130,11 +130,7 @@ pub fn clear_run(img: &mut [u8], ed: Edition, at: Offset, slots: u64)
     requires { at.0 + 64 * slots ≤ length img.old }
     ensures { img.new ≡ splice img.old at.0 (unused_bytes (edition_view ed) slots) }
 {
-    let mut place = at;
-    let mut left = slots;
-    while 0 < left {
-        put_bare(img, ed, place, slots::UNUSED);
-        place = place.after_slots(1);
-        left -= 1;
+    for i in 0..slots {
+        put_bare(img, ed, at.after_slots(i), slots::UNUSED);
     }
 }

@@ -40,36 +40,21 @@ const STRAY: u8 = 0x20;
 pub fn is_file(kind: u8) -> bool
     ensures { result ≡ file_type kind }
 {
-    if kind == FILE {
-        return true;
-    }
-    kind == DELETED_FILE
+    matches!(kind, FILE | DELETED_FILE)
 }
 
 // A type that starts a run. Walks ask it of every slot, and most are live files.
 pub fn is_run(kind: u8) -> bool
     ensures { result ≡ run_type kind }
 {
-    if kind == FILE {
-        return true;
-    }
-    if kind == DIRECTORY {
-        return true;
-    }
-    is_deleted(kind)
+    is_live(kind) || is_deleted(kind)
 }
 
 // A slot that is left over: a deleted run, or a stray slot. An edition that keeps deleted entries has none.
 pub fn is_stale(ed: Edition, kind: u8) -> bool
     ensures { result ≡ stale_type (edition_view ed) kind }
 {
-    if ed.keeps_deleted() {
-        return false;
-    }
-    if is_deleted(kind) {
-        return true;
-    }
-    STRAY <= kind
+    !ed.keeps_deleted() && (is_deleted(kind) || STRAY <= kind)
 }
 
 // The types that start an entry, as bits.
@@ -92,28 +77,19 @@ fn entry_types(ed: Edition) -> u64
 pub fn is_entry(ed: Edition, kind: u8) -> bool
     ensures { result ≡ entry_type (edition_view ed) kind }
 {
-    if STRAY <= kind {
-        return false;
-    }
-    (entry_types(ed) >> fields::wide(kind)) % 2 == 1
+    kind < STRAY && (entry_types(ed) >> kind) % 2 == 1
 }
 
 pub fn is_live(kind: u8) -> bool
     ensures { result ≡ live_type kind }
 {
-    if kind == DIRECTORY {
-        return true;
-    }
-    kind == FILE
+    matches!(kind, DIRECTORY | FILE)
 }
 
 pub fn is_deleted(kind: u8) -> bool
     ensures { result ≡ deleted_type kind }
 {
-    if kind == DELETED_DIRECTORY {
-        return true;
-    }
-    kind == DELETED_FILE
+    matches!(kind, DELETED_DIRECTORY | DELETED_FILE)
 }
 
 // The type that an entry of this type has once it is deleted.
@@ -121,32 +97,24 @@ pub fn deleted_kind(kind: u8) -> u8
     ensures { result ≡ deleted_kind kind }
 {
     if is_file(kind) {
-        return DELETED_FILE;
+        DELETED_FILE
+    } else {
+        DELETED_DIRECTORY
     }
-    DELETED_DIRECTORY
 }
 
 // The type that an entry of this type has once it is restored.
 pub fn live_kind(kind: u8) -> u8
     ensures { result ≡ live_kind kind }
 {
-    if is_file(kind) {
-        return FILE;
-    }
-    DIRECTORY
+    if is_file(kind) { FILE } else { DIRECTORY }
 }
 
 // A first byte that is a fault where it starts no entry. In 1.10 those from 0x20 on were taken as left over before this is asked.
 pub fn is_stray(kind: u8) -> bool
     ensures { result ≡ stray_type kind }
 {
-    if STRAY <= kind {
-        return true;
-    }
-    if kind == IDENTIFIER {
-        return true;
-    }
-    kind == MARKER
+    STRAY <= kind || matches!(kind, IDENTIFIER | MARKER)
 }
 
 // ---- where an entry's fields lie in its first slot, those of a run behind its sum
@@ -203,7 +171,7 @@ pub fn slots_at(img: &[u8], ed: Edition, at: Offset) -> u64
     ensures { (result ≡ run_slots (edition_view ed) (drop at.0 img.now)) × (1 ≤ result) × (result ≤ 256) }
 {
     let i = at.after(ed.sum_length() + COUNT).index();
-    1 + fields::wide(img[i])
+    1 + u64::from(img[i])
 }
 
 // Where it says yes, a walk goes on by one slot from `at`; a no says nothing. The count is only tested, so that where the next slot is does not depend on it.
@@ -239,10 +207,7 @@ pub fn is_whole(img: &[u8], sums: &[u8], ed: Edition, at: Offset, k: Slot, left:
     ensures { result ≡ run_whole (edition_view ed) left (drop at.0 img.now) }
 {
     let slots = slots_at(img, ed, at);
-    if left < slots {
-        return false;
-    }
-    sums::is_good(ed, sums, k, slots)
+    slots <= left && sums::is_good(ed, sums, k, slots)
 }
 
 // How many slots are left over at `at`, which is slot k: those of a deleted run that is whole, else one. Where something is left over, entries have sums: the edition is

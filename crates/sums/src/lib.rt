@@ -30,14 +30,10 @@ fn add_up(img: &[u8], at: Offset, first: usize, n: u64, sums: &mut [u8])
     ensures { AddsUp img.now sums.new at.0 first n }
 {
     let mut sum: u64 = 0;
-    let mut i: u64 = 0;
-    let mut k = first;
-    sums[k] = 0;
-    while i < n {
+    sums[first] = 0;
+    for i in 0..n {
         sum = (sum + slot_sum(img, at, i)) % 256;
-        i += 1;
-        k += 1;
-        sums[k] = sum as u8;
+        sums[first + i as usize + 1] = sum as u8;
     }
 }
 
@@ -67,8 +63,5 @@ pub fn is_good(ed: Edition, sums: &[u8], k: Slot, n: u64) -> bool
     requires { k.0 + n < length sums.now }
     ensures { result ≡ good_by (edition_view ed) sums.now k.0 n }
 {
-    if ed.sum_length() == 0 {
-        return true;
-    }
-    sum_to_zero(sums, k, n)
+    ed.sum_length() == 0 || sum_to_zero(sums, k, n)
 }

@@ -1,19 +1,28 @@
+use mathlib.Core.Path.{sym, ◌∙◌}
+use borrow.Author.Tests.{ne_eqb}
+use Rattle.rules.specs.Lists.Laws.{clash}
 use Rattle.editions.specs.View.{edition_view}
 use Rattle.ends.specs.Ends.{identifier-type, identifier-broken, identifier-named}
 use Rattle.ends.proofs.identifier_good.Goals as goal
+use Rattle.ends.proofs.identifier_good.Goals.{then-kind_at-eq-IDENTIFIER, else-kind_at-eq-IDENTIFIER}
 
-pub returns-then-kind_at-ne-IDENTIFIER : goal.returns-then-kind_at-ne-IDENTIFIER
-returns-then-kind_at-ne-IDENTIFIER c =
+pub returns-then-sum_good : goal.returns-then-sum_good
+returns-then-sum_good c =
     let a = c.args in
-    identifier-type a.img.now _ c.identifier-at.ensures.0 (edition_view a.ed) _ c.kind_at.ensures c.if-kind_at-ne-IDENTIFIER.true
+    elim c.if-kind_at-eq-IDENTIFIER.branch [
+      | then-kind_at-eq-IDENTIFIER w ↦
+          identifier-named a.img.now _ c.identifier-at.ensures.0 (edition_view a.ed) _ c.kind_at.ensures _ w.sum_good.ensures w.if-kind_at-eq-IDENTIFIER.true
+          (sym w.value-is ∙ c.if-sum_good.true) _ c.volume_field.ensures _ c.volume_field_good.ensures
+      | else-kind_at-eq-IDENTIFIER w ↦ clash (sym c.if-sum_good.true ∙ w.value-is ∙ ne_eqb _ _ w.if-kind_at-eq-IDENTIFIER.false)
+    ]
 
-pub returns-then-not-sum_good : goal.returns-then-not-sum_good
-returns-then-not-sum_good c =
+pub returns-else-sum_good : goal.returns-else-sum_good
+returns-else-sum_good c =
     let a = c.args in
-    identifier-broken a.img.now _ c.identifier-at.ensures.0 (edition_view a.ed) _ c.kind_at.ensures _ c.sum_good.ensures (c.if-not-sum_good.true)
-
-pub returns : goal.returns
-returns c =
-    let a = c.args in
-    identifier-named a.img.now _ c.identifier-at.ensures.0 (edition_view a.ed) _ c.kind_at.ensures _ c.sum_good.ensures c.if-kind_at-ne-IDENTIFIER.false (c.if-not-sum_good.false)
-    _ c.volume_field.ensures _ c.volume_field_good.ensures
+    c.if-sum_good.false
+    ∙ elim c.if-kind_at-eq-IDENTIFIER.branch [
+      | then-kind_at-eq-IDENTIFIER w ↦
+          identifier-broken a.img.now _ c.identifier-at.ensures.0 (edition_view a.ed) _ c.kind_at.ensures _ w.sum_good.ensures (sym w.value-is ∙ c.if-sum_good.false)
+      | else-kind_at-eq-IDENTIFIER w ↦
+          identifier-type a.img.now _ c.identifier-at.ensures.0 (edition_view a.ed) _ c.kind_at.ensures w.if-kind_at-eq-IDENTIFIER.false
+    ]

@@ -1,11 +1,12 @@
+use native.Mathlib.Omega.{arith}
+use Rattle.std.proofs.lemmas.Bool.Decides.{nat_tests}
 use Rattle.rules.specs.Index.{file_type}
-use borrow.Author.Tests.{eq-eqb, ne_eqb}
 use Rattle.slots.proofs.is_file.Goals as goal
 
-pub returns-then-kind-eq-FILE : goal.returns-then-kind-eq-FILE
+pub returns-in-18 : goal.returns-in-18
 unfolding file_type
-returns-then-kind-eq-FILE c = rw (eq-eqb _ _ c.if-kind-eq-FILE.true)
+returns-in-18 c = grind (arith, nat_tests)
 
-pub returns : goal.returns
+pub returns-in_default : goal.returns-in_default
 unfolding file_type
-returns c = rw (ne_eqb _ _ c.if-kind-eq-FILE.false)
+returns-in_default c = grind (arith, nat_tests)

@@ -1,11 +1,16 @@
-use borrow.Author.Tests.{eq-eqb, ne_eqb}
-use Rattle.rules.specs.Index.{live_type}
+use native.Mathlib.Omega.{arith}
+use Rattle.std.proofs.lemmas.Bool.Decides.{nat_tests}
+use Rattle.rules.specs.Index.{live_type, directory_type, file_type}
 use Rattle.slots.proofs.is_live.Goals as goal
 
-pub returns-then-kind-eq-DIRECTORY : goal.returns-then-kind-eq-DIRECTORY
-unfolding live_type
-returns-then-kind-eq-DIRECTORY c = rw (eq-eqb _ _ c.if-kind-eq-DIRECTORY.true)
+pub returns-in-17 : goal.returns-in-17
+unfolding live_type directory_type file_type
+returns-in-17 c = grind (arith, nat_tests)
 
-pub returns : goal.returns
-unfolding live_type
-returns c = rw (ne_eqb _ _ c.if-kind-eq-DIRECTORY.false)
+pub returns-in_default : goal.returns-in_default
+unfolding live_type directory_type file_type
+returns-in_default c = grind (arith, nat_tests)
+
+pub returns-in_default-2 : goal.returns-in_default-2
+unfolding live_type directory_type file_type
+returns-in_default-2 c = grind (arith, nat_tests)

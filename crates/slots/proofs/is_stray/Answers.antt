@@ -1,15 +1,20 @@
+use native.Mathlib.Omega.{arith}
+use Rattle.std.proofs.lemmas.Bool.Decides.{nat_tests}
 use Rattle.rules.specs.Index.{stray_type}
-use borrow.Author.Tests.{eq-eqb, ne_eqb, le-leb, lt-leb}
 use Rattle.slots.proofs.is_stray.Goals as goal
 
 pub returns-then-kind-ge-STRAY : goal.returns-then-kind-ge-STRAY
 unfolding stray_type
-returns-then-kind-ge-STRAY c = rw (le-leb _ _ c.if-kind-ge-STRAY.true)
+returns-then-kind-ge-STRAY c = grind (arith, nat_tests)
 
-pub returns-then-kind-eq-IDENTIFIER : goal.returns-then-kind-eq-IDENTIFIER
+pub returns-in-1 : goal.returns-in-1
 unfolding stray_type
-returns-then-kind-eq-IDENTIFIER c = rw (lt-leb _ _ c.if-kind-ge-STRAY.false, eq-eqb _ _ c.if-kind-eq-IDENTIFIER.true)
+returns-in-1 c = grind (arith, nat_tests)
 
-pub returns : goal.returns
+pub returns-in_default : goal.returns-in_default
 unfolding stray_type
-returns c = rw (lt-leb _ _ c.if-kind-ge-STRAY.false, ne_eqb _ _ c.if-kind-eq-IDENTIFIER.false)
+returns-in_default c = grind (arith, nat_tests)
+
+pub returns-in_default-2 : goal.returns-in_default-2
+unfolding stray_type
+returns-in_default-2 c = grind (arith, nat_tests)

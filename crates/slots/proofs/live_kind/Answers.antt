@@ -7,6 +7,6 @@ pub returns-then-is_file : goal.returns-then-is_file
 unfolding live_kind pick
 returns-then-is_file c = rw (sym c.is_file.ensures ∙ c.if-is_file.true)
 
-pub returns : goal.returns
+pub returns-else-is_file : goal.returns-else-is_file
 unfolding live_kind pick
-returns c = rw (sym c.is_file.ensures ∙ c.if-is_file.false)
+returns-else-is_file c = rw (sym c.is_file.ensures ∙ c.if-is_file.false)

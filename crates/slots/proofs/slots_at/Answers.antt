@@ -9,7 +9,7 @@ pub returns : goal.returns
 returns c =
     let a = c.args in
     let place = c.index-i.ensures ∙ c.after.ensures in (
-      slots_read _ a.img.now a.at.0 _ _ c.sum_length.ensures.0 (c.wide.ensures.0 ∙ ap (λ (j : ℕ). get_or a.img.now j 0) place),
+      slots_read _ a.img.now a.at.0 _ _ c.sum_length.ensures.0 (c.from.ensures ∙ ap (λ (j : ℕ). get_or a.img.now j 0) place),
       omega arith,
-      omega (arith, c.wide.ensures.1),
+      omega arith,
     )
