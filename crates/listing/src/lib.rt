@@ -18,19 +18,18 @@ ghost use Rattle.listing.specs.Lines.{numbers_text, date_text, path_text, entry_
 ghost use Rattle.listing.specs.Volume.{count_text, name_text, entries_text, opened_text};
 
 use geometry::Geometry;
-use index::{Cursor, Next};
-use judging::Judged;
+use index::Cursor;
 use slots::Head;
 use text::{put_byte, put_bytes, put_counted, put_moment, put_number};
 
 // The room that a text asks for.
 pub const ROOM: usize = 131_072;
 
-fn put_refused(out: &mut [u8], n: u8) -> usize
+fn put_refused(out: &mut [u8], n: u32) -> usize
     requires { length (refused_line n) ≤ length out.old }
     ensures { Wrote out.old 0 (refused_line n) out.new result }
 {
-    let end = put_counted(out, 0, b"refused ", n as u64);
+    let end = put_counted(out, 0, b"refused ", u64::from(n));
     put_byte(out, end, b'\n')
 }
 
@@ -95,15 +94,11 @@ fn put_lines(img: &[u8], sums: &[u8], from: Cursor, out: &mut [u8], at: usize) -
 {
     let mut c = from;
     let mut end = at;
-    loop {
-        match index::next_entry(img, sums, c) {
-            Next::End => return end,
-            Next::Found(h, rest) => {
-                end = put_entry(img, h, out, end);
-                c = rest;
-            }
-        }
+    while let Some((h, rest)) = index::next_entry(img, sums, c) {
+        end = put_entry(img, h, out, end);
+        c = rest;
     }
+    end
 }
 
 // ---- the count
@@ -111,7 +106,7 @@ fn put_lines(img: &[u8], sums: &[u8], from: Cursor, out: &mut [u8], at: usize) -
 fn live_one(h: Head) -> u64
     ensures { ((s : List ℕ) → result ≡ live_one (head_view s h)) × (result ≤ 1) }
 {
-    if slots::is_live(h.kind) { 1 } else { 0 }
+    u64::from(slots::is_live(h.kind))
 }
 
 fn count_live(img: &[u8], sums: &[u8], from: Cursor) -> u64
@@ -120,15 +115,11 @@ fn count_live(img: &[u8], sums: &[u8], from: Cursor) -> u64
 {
     let mut c = from;
     let mut live = 0;
-    loop {
-        match index::next_entry(img, sums, c) {
-            Next::End => return live,
-            Next::Found(h, rest) => {
-                live += live_one(h);
-                c = rest;
-            }
-        }
+    while let Some((h, rest)) = index::next_entry(img, sums, c) {
+        live += live_one(h);
+        c = rest;
     }
+    live
 }
 
 fn put_count(out: &mut [u8], at: usize, live: u64, held: u64) -> usize
@@ -178,7 +169,7 @@ pub fn listing(img: &[u8], out: &mut [u8]) -> usize
     ensures lent { (result ≤ length out.new) × (result ≡ length (take result out.new)) }
 {
     match judging::judge_read(img) {
-        Judged::Refused(n) => put_refused(out, n),
-        Judged::Good(g) => put_volume(img, g, out),
+        Ok(g) => put_volume(img, g, out),
+        Err(e) => put_refused(out, u32::from(e)),
     }
 }

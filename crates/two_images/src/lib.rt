@@ -8,36 +8,19 @@ ghost use Rattle.rules.specs.History.{Agree};
 
 use contracts::{Content, Entry, Listed, Records};
 
+// What a call answers on each of the two.
 #[derive(Clone, Copy)]
-pub struct FoundBoth {
-    pub one: Entry,
-    pub other: Entry,
+pub struct Both<T> {
+    pub one: T,
+    pub other: T,
 }
 
-#[derive(Clone, Copy)]
-pub struct ReadBoth {
-    pub one: Content,
-    pub other: Content,
-}
-
-#[derive(Clone, Copy)]
-pub struct ListedBoth {
-    pub one: Listed,
-    pub other: Listed,
-}
-
-#[derive(Clone, Copy)]
-pub struct RecordsBoth {
-    pub one: Records,
-    pub other: Records,
-}
-
-pub fn find_on_both(one: &[u8], other: &[u8], path: &[u8]) -> FoundBoth
+pub fn find_on_both(one: &[u8], other: &[u8], path: &[u8]) -> Both<Entry>
     ensures { Agree one.now other.now → result.one ≡ result.other }
 {
     let a = sfs::sfs_find(one, path);
     let b = sfs::sfs_find(other, path);
-    FoundBoth { one: a, other: b }
+    Both { one: a, other: b }
 }
 
 pub fn read_on_both(
@@ -46,12 +29,12 @@ pub fn read_on_both(
     path: &[u8],
     out: &mut [u8],
     again: &mut [u8],
-) -> ReadBoth
+) -> Both<Content>
     ensures { Agree one.now other.now → out.old ≡ again.old → (result.one ≡ result.other) × (out.new ≡ again.new) }
 {
     let a = sfs::sfs_read(one, path, out);
     let b = sfs::sfs_read(other, path, again);
-    ReadBoth { one: a, other: b }
+    Both { one: a, other: b }
 }
 
 pub fn list_on_both(
@@ -60,12 +43,12 @@ pub fn list_on_both(
     slot: u64,
     out: &mut [u8],
     again: &mut [u8],
-) -> ListedBoth
+) -> Both<Listed>
     ensures { Agree one.now other.now → out.old ≡ again.old → (result.one ≡ result.other) × (out.new ≡ again.new) }
 {
     let a = sfs::sfs_list(one, slot, out);
     let b = sfs::sfs_list(other, slot, again);
-    ListedBoth { one: a, other: b }
+    Both { one: a, other: b }
 }
 
 pub fn list_all_on_both(
@@ -74,10 +57,10 @@ pub fn list_all_on_both(
     slot: u64,
     out: &mut [u8],
     again: &mut [u8],
-) -> RecordsBoth
+) -> Both<Records>
     ensures { Agree one.now other.now → out.old ≡ again.old → (result.one ≡ result.other) × (out.new ≡ again.new) }
 {
     let a = sfs::sfs_list_all(one, slot, out);
     let b = sfs::sfs_list_all(other, slot, again);
-    RecordsBoth { one: a, other: b }
+    Both { one: a, other: b }
 }

@@ -1,18 +1,19 @@
-use mathlib.Core.Path.{sym, ◌∙◌}
-use native.Mathlib.Omega.{arith}
-use Rattle.rules.specs.Lists.Laws.{pick_true, pick-false}
+use Rattle.std.specs.Prelude.{◌≡◌, ℕ, ◌≤◌, Bool, true, false}
+use Rattle.std.proofs.Common.{refl, ap, ◌∙◌, arith}
+use Rattle.rules.specs.Lists.{pick}
 use Rattle.rules.specs.Paths.{is_live}
 use Rattle.slots.specs.View.{head_view}
 use Rattle.listing.specs.Lines.{live_one}
 use Rattle.listing.proofs.live_one.Goals as goal
 
-pub is_live-requires : goal.is_live-requires
-is_live-requires c = tt
+-- a test as a number
+one-zero : (b : Bool) → (mir.Val.bool_byte b ≡ pick b 1 0) × (mir.Val.bool_byte b ≤ 1)
+unfolding pick
+one-zero true = (refl, omega arith)
+one-zero false = (refl, omega arith)
 
-pub returns-then-is_live : goal.returns-then-is_live
+pub returns : goal.returns
 unfolding live_one is_live head_view
-returns-then-is_live c = (λ s. sym (pick_true _ _ (sym c.is_live.ensures ∙ c.if-is_live.true)), omega arith)
-
-pub returns-else-is_live : goal.returns-else-is_live
-unfolding live_one is_live head_view
-returns-else-is_live c = (λ s. sym (pick-false _ _ (sym c.is_live.ensures ∙ c.if-is_live.false)), omega arith)
+returns c =
+    let k = one-zero c.is_live.result in
+    (λ s. c.from.ensures ∙ k.0 ∙ ap (λ (b : Bool). pick b 1 0) c.is_live.ensures, omega (arith, c.from.ensures, k.1))
