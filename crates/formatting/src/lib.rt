@@ -14,9 +14,6 @@ use editions::Edition;
 use geometry::Geometry;
 use refusals::Refusal;
 
-// The most blocks that the super-block can say are reserved.
-const MOST_RESERVED: u64 = 0xFFFF_FFFF;
-
 // The super-block, and the two ends of the index.
 fn write_volume(img: &mut [u8], g: Geometry, name: &[u8])
     requires { (1024 ≤ length img.old) × (length name.now ≤ 51) }
@@ -62,10 +59,8 @@ pub fn format(
     }
     let ed = Edition::named(version).ok_or(Refusal::Geometry)?;
     let field = blocks::block_field(bytes).ok_or(Refusal::Geometry)?;
-    if MOST_RESERVED < reserved {
-        return Err(Refusal::Geometry);
-    }
-    let g = fresh(n, ed, field, reserved as u32, stamp);
+    let reserved = u32::try_from(reserved).map_err(|_| Refusal::Geometry)?;
+    let g = fresh(n, ed, field, reserved, stamp);
     if !g.is_good(n) {
         return Err(Refusal::Geometry);
     }

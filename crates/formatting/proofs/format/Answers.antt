@@ -1,9 +1,10 @@
-use Prim.Native.Nat.{ℕ}
+use Prim.Native.Nat.{ℕ, ◌^◌, ◌≤◌}
 use mathlib.Core.Path.{◌≡◌, sym, ap, ◌∙◌}
 use mathlib.Core.Bool.{Bool, true}
 use mathlib.Core.Option.{some}
 use native.Mathlib.Omega.{arith}
 use lib.ListN.{length}
+use Rattle.std.proofs.lemmas.Grind.{common_steps}
 use Rattle.std.specs.Prelude.{Some, None, is_some}
 use Rattle.std.proofs.lemmas.Result.{err_from_is_err_and}
 use Rattle.refusals.specs.declared.Refusal.TheVariants.{Geometry as BadGeometry}
@@ -22,7 +23,7 @@ use Rattle.geometry.specs.View.{geometry_view}
 use Rattle.blocks.specs.View.{field_view}
 use Rattle.formatting.specs.Fresh.{reserved-wide}
 use Rattle.formatting.proofs.format.Goals as goal
-use Rattle.formatting.proofs.format.Goals.{After-fresh-g, After-is_good, Else-not-is_good, Else-not-length_good, Else-not-volume_name_good, In_ok-ed, In_ok-field, Start}
+use Rattle.formatting.proofs.format.Goals.{After-fresh-g, After-is_good, Else-not-is_good, Else-not-length_good, Else-not-volume_name_good, In_ok-ed, In_ok-field, In_ok-reserved, Start}
 
 pub returns-then-not-length_good : goal.returns-then-not-length_good
 returns-then-not-length_good c = sym (format-length _ _ _ _ _ _ (sym c.length_good.ensures ∙ c.if-not-length_good.true))
@@ -45,12 +46,15 @@ field-some c =
     let found : c.block_field.result ≡ Some c.in_ok-field.field = grind arith in
     sym c.block_field.ensures ∙ ap field_view found
 
+reserved-is : (c : In_ok-reserved) → c.in_ok-reserved.reserved ≡ c.args.reserved
+reserved-is c = grind (arith, common_steps)
+
 -- the fresh geometry with the block size field b
 abbrev fresh_of : Start → ℕ → Geometry
 fresh_of x b = fresh_geometry (edition_named x.args.version) (length x.args.img.now) b x.args.reserved (signed_of x.args.stamp)
 
 made : (c : After-fresh-g) → geometry_view c.fresh-g.result ≡ fresh_of (goal.at.After-fresh-g c).Start c.in_ok-field.field
-made c = rw (← edition-is (goal.at.After-fresh-g c).In_ok-ed) c.fresh-g.ensures
+made c = rw (← edition-is (goal.at.After-fresh-g c).In_ok-ed, ← reserved-is (goal.at.After-fresh-g c).In_ok-reserved) c.fresh-g.ensures
 
 abbrev fresh_good : Start → ℕ → Bool
 fresh_good x b = geometry_good (length x.args.img.now) (fresh_of x b)
@@ -80,10 +84,14 @@ returns-in_err-field c =
     rw (p.1, p.2, told)
     (sym (format-block _ _ _ _ _ _ (length-is (goal.at.returns-in_err-field c).Else-not-length_good) (version-is (goal.at.returns-in_err-field c).In_ok-ed) (sym c.block_field.ensures ∙ ap field_view gone)))
 
-pub returns-then-reserved-gt-MOST_RESERVED : goal.returns-then-reserved-gt-MOST_RESERVED
-returns-then-reserved-gt-MOST_RESERVED c =
-    let l = length-is (goal.at.returns-then-reserved-gt-MOST_RESERVED c).Else-not-length_good in
-    sym (format-geometry _ _ _ _ _ _ l (version-is (goal.at.returns-then-reserved-gt-MOST_RESERVED c).In_ok-ed) _ (field-some (goal.at.returns-then-reserved-gt-MOST_RESERVED c).In_ok-field) (reserved-wide _ _ _ _ _ (length-bounds _ l).1 (omega arith)))
+pub returns-in_err-reserved : goal.returns-in_err-reserved
+returns-in_err-reserved c =
+    let wide : 2 ^ 32 ≤ c.args.reserved = grind (arith, common_steps) in
+    let told : c.in_err-reserved.field-0.0 ≡ BadGeometry = grind (arith, common_steps) in
+    let l = length-is (goal.at.returns-in_err-reserved c).Else-not-length_good in
+    let p = err_from_is_err_and c.from_residual-in_err-reserved.result c.from_residual-in_err-reserved.ensures.1 in
+    rw (p.1, p.2, told)
+    (sym (format-geometry _ _ _ _ _ _ l (version-is (goal.at.returns-in_err-reserved c).In_ok-ed) _ (field-some (goal.at.returns-in_err-reserved c).In_ok-field) (reserved-wide _ _ _ _ _ (length-bounds _ l).1 wide)))
 
 pub fresh-g-requires : goal.fresh-g-requires
 fresh-g-requires c = (field_is _ _ (field-some (goal.at.fresh-g-requires c).In_ok-field)).1
