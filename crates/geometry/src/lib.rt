@@ -102,7 +102,7 @@ impl Geometry {
     pub fn data_start(self) -> Block
         ensures { result.0 ≡ self.reserved }
     {
-        Block::at(self.reserved as u64)
+        Block::at(u64::from(self.reserved))
     }
 
     // The first block past the data area.
@@ -136,7 +136,7 @@ impl Geometry {
             return false;
         }
         let len = self.block_length();
-        let reserved = self.reserved as u64;
+        let reserved = u64::from(self.reserved);
         is_product(self.total, len, n)
             && LEAST_RESERVED <= reserved * len
             && reserved + LEAST_REST <= self.total

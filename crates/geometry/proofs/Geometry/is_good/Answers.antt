@@ -12,21 +12,21 @@ use Rattle.geometry.proofs.Geometry.is_good.Goals.{Joined-is_product, Joined-res
 
 pub overflow_mul-reserved : goal.overflow_mul-reserved
 overflow_mul-reserved c =
-    omega (arith, mul-le-mul {n₁ = c.args.self.reserved} {m₁ = c.block_length-len.result} {n₂ = 4294967295} {m₂ = 4096} (omega arith) c.block_length-len.ensures.2)
+    omega (arith, mul-le-mul {n₁ = c.from-reserved.result} {m₁ = c.block_length-len.result} {n₂ = 4294967295} {m₂ = 4096} (omega arith) c.block_length-len.ensures.2)
 
 pub returns-then-not-contains : goal.returns-then-not-contains
 unfolding geometry_good
 returns-then-not-contains c = grind (arith, common_steps)
 
 -- the tests that were joined, as far as each place
-first : (c : Joined-is_product) → c.if-is_product.value ≡ (c.is_product.result && leb 512 (c.args.self.reserved * c.block_length-len.result))
+first : (c : Joined-is_product) → c.if-is_product.value ≡ (c.is_product.result && leb 512 (c.from-reserved.result * c.block_length-len.result))
 first c =
     elim c.if-is_product.branch [
       | then-is_product w ↦ rw (w.value-is, w.if-is_product.true)
       | else-is_product w ↦ rw (w.value-is, w.if-is_product.false)
     ]
 
-both : (c : Joined-reserved-len-ge-LEAST_RESERVED) → c.if-reserved-len-ge-LEAST_RESERVED.value ≡ (c.if-is_product.value && leb (c.args.self.reserved + 2) c.args.self.total)
+both : (c : Joined-reserved-len-ge-LEAST_RESERVED) → c.if-reserved-len-ge-LEAST_RESERVED.value ≡ (c.if-is_product.value && leb (c.from-reserved.result + 2) c.args.self.total)
 both c =
     elim c.if-reserved-len-ge-LEAST_RESERVED.branch [
       | then-reserved-len-ge-LEAST_RESERVED w ↦ rw (w.value-is, w.if-reserved-len-ge-LEAST_RESERVED.true)
@@ -38,7 +38,7 @@ before-areas : (c : Joined-reserved-len-ge-LEAST_RESERVED) → let g = c.args.se
 before-areas c =
     let g = c.args.self in
     let f : (leb 1 g.block_field && leb g.block_field 5) ≡ true = grind (arith, common_steps) in
-    rw (f, ← c.block_length-len.ensures.0, ← c.is_product.ensures, ← first (goal.at.Joined-reserved-len-ge-LEAST_RESERVED c).Joined-is_product) (sym (both c))
+    rw (f, ← c.block_length-len.ensures.0, ← c.from-reserved.ensures, ← c.is_product.ensures, ← first (goal.at.Joined-reserved-len-ge-LEAST_RESERVED c).Joined-is_product) (sym (both c))
 
 pub returns-then-reserved-self : goal.returns-then-reserved-self
 unfolding geometry_good areas_fit
