@@ -1,4 +1,5 @@
 // The answers of the calls that read, as include/sfs.h declares them. What each call promises: specs/Promises.antt.
+// Kept: a number for the refusal, and the fields of Entry again in Listed, since the structs of sfs_open, sfs_find, sfs_list, sfs_list_all and sfs_read are so.
 
 #![tactic(auto)]
 

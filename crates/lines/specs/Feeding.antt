@@ -149,13 +149,6 @@ none_is_some : {A B : Type 0} {n : A} {x : Option A} → x ≡ None → x ≡ So
 none_is_some e f = absurd (cc)
 
 module _ (left : ℕ) (p piece : List ℕ) (from : ℕ) (buffer : List ℕ) (r : Fed) where
-  -- no line is used any more
-  pub fed-unused : (at : ℕ) → left ≡ 0 → AllFed at 0 left r → FedTo left p piece from r buffer
-  fed-unused at z a = record {
-    ended = λ k t. none_is_some a.still t;
-    going = λ f. rw (a.count, a.lines, z) (record { read = []; holds = holds-none buffer; same = λ more. refl });
-  }
-
   abbrev rest : List ℕ
   rest = drop from piece
 
