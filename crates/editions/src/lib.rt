@@ -105,7 +105,7 @@ impl Edition {
         ensures { result ≡ leb (past_end (edition_view self) stored.0) b.0 }
     {
         match self {
-            Edition::First => stored.is_at_or_before(b),
+            Edition::First => stored <= b,
             Edition::Second => last_before(stored, b),
         }
     }
@@ -151,5 +151,5 @@ fn behind_last(last: Block) -> Block
 fn last_before(last: Block, b: Block) -> bool
     ensures { result ≡ leb (pick (eqb last.0 0) 0 (last.0 + 1)) b.0 }
 {
-    last.number() == 0 || last.is_before(b)
+    last.number() == 0 || last < b
 }

@@ -39,7 +39,7 @@ fn free_from(keys: &[u64], from: usize, k: u64, low: Block) -> Block
         if b.has_room(k, regions::key_start(key)) {
             return b;
         }
-        b = b.later(regions::key_end(key));
+        b = b.max(regions::key_end(key));
     }
     b
 }
@@ -125,7 +125,7 @@ pub fn last_end(img: &[u8], sums: &[u8], from: Cursor, gone: Gone) -> Block
     let mut c = from;
     let mut last = Block::at(0);
     while let Some((e, rest)) = index::next_entry(img, sums, c) {
-        last = last.later(kept_end(e, gone));
+        last = last.max(kept_end(e, gone));
         c = rest;
     }
     last

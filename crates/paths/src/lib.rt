@@ -240,7 +240,7 @@ pub fn any_deleted(img: &[u8], sums: &[u8], from: Cursor, path: &[u8]) -> bool
 fn is_from(e: Spot, slot: Slot) -> bool
     ensures { (s : List ℕ) → result ≡ live_from slot.0 (spot_view s e) }
 {
-    slots::is_live(e.kind) && slot.is_at_or_before(e.slot)
+    slots::is_live(e.kind) && slot <= e.slot
 }
 
 // The live entry with the lowest first slot not below this one, and where the walk goes on behind it.

@@ -1,4 +1,6 @@
-use mathlib.Core.Path.{sym, ◌∙◌}
+use mathlib.Core.Path.{◌≡◌, sym, ◌∙◌}
+use lib.Dec.{ltb}
+use borrow.Author.Rules.{rules}
 use native.Mathlib.Omega.{arith}
 use borrow.Author.Tests.{eq-eqb, ne_eqb, le-leb}
 use Rattle.editions.specs.Ends.{before-next}
@@ -11,4 +13,5 @@ returns-then-number-eq0 c = let z = sym c.number.ensures ∙ c.if-number-eq0.tru
 pub returns-else-number-eq0 : goal.returns-else-number-eq0
 returns-else-number-eq0 c =
     let a = c.args in
-    rw (pick-false _ _ (ne_eqb _ _ (λ e. c.if-number-eq0.false (c.number.ensures ∙ e)))) (c.is_before.ensures ∙ before-next a.last.0 a.b.0)
+    let h : c.lt.result ≡ ltb a.last.0 a.b.0 = search rules in
+    rw (pick-false _ _ (ne_eqb _ _ (λ e. c.if-number-eq0.false (c.number.ensures ∙ e)))) (h ∙ before-next a.last.0 a.b.0)

@@ -1,4 +1,5 @@
-use Prim.Native.Nat.{◌<◌}
+use Prim.Native.Nat.{max, ◌<◌}
+use borrow.Author.Rules.{rules}
 use mathlib.Core.Path.{◌≡◌, sym, ap, ◌∙◌}
 use native.Mathlib.Omega.{arith}
 use lib.Dec.{leb}
@@ -28,7 +29,8 @@ returns-then-has_room c =
 pub loop-key-preserved : goal.loop-key-preserved
 loop-key-preserved c =
     let t = turn (goal.at.loop-key-preserved c).In-Some in
-    rw (length_push c.loop-key.yielded c.in-Some.field-0, c.later-b.ensures, c.key_end.ensures)
+    let h : c.max-b.result.0 ≡ max c.loop-key.b.0 c.key_end.result.0 = search rules in
+    rw (length_push c.loop-key.yielded c.in-Some.field-0, h, c.key_end.ensures)
     (free-next (drop c.args.from c.args.keys.now) _ _ (length c.loop-key.yielded) c.in-Some.field-0.now t.0 t.1
     (sym (ap (leb _) c.key_start.ensures) ∙ sym c.has_room.ensures.value ∙ c.if-has_room.false))
     ∙ c.loop-key.invariant

@@ -1,3 +1,6 @@
+use Prim.Native.Nat.{max}
+use mathlib.Core.Path.{◌≡◌}
+use borrow.Author.Rules.{rules}
 use native.Mathlib.Omega.{arith}
 use Rattle.rules.specs.Lists.{All}
 use Rattle.slots.specs.View.{head_view}
@@ -25,7 +28,8 @@ small c = small-next _ _ _ (step c).entries c.loop-e.invariant.1
 
 pub loop-e-preserved : goal.loop-e-preserved
 loop-e-preserved c =
-    ((step (goal.at.loop-e-preserved c).In-Some).walks, (small (goal.at.loop-e-preserved c).In-Some).1, omega (arith, least-next (is_gone c.args.gone) _ _ _ (step (goal.at.loop-e-preserved c).In-Some).entries, c.later-last.ensures, c.kept_end.ensures c.args.img.now, c.loop-e.invariant.2), sums-step _ _ c.loop-e.c c.loop-e.invariant.3 _ _ (step (goal.at.loop-e-preserved c).In-Some))
+    let h : c.max-last.result.0 ≡ max c.loop-e.last.0 c.kept_end.result.0 = search rules in
+    ((step (goal.at.loop-e-preserved c).In-Some).walks, (small (goal.at.loop-e-preserved c).In-Some).1, omega (arith, least-next (is_gone c.args.gone) _ _ _ (step (goal.at.loop-e-preserved c).In-Some).entries, h, c.kept_end.ensures c.args.img.now, c.loop-e.invariant.2), sums-step _ _ c.loop-e.c c.loop-e.invariant.3 _ _ (step (goal.at.loop-e-preserved c).In-Some))
 
 pub next_entry-requires : goal.next_entry-requires
 next_entry-requires c = (c.loop-e.invariant.0, c.loop-e.invariant.3)
