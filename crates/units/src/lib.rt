@@ -1,8 +1,8 @@
-// Block numbers, slot numbers and byte offsets: three units, converted only by the functions here.
+// Block numbers, slot numbers and byte offsets: three units, converted only by the functions here. Those of one unit compare as their numbers do.
 
 #![tactic(auto)]
 
-ghost use Rattle.std.specs.Prelude.{◌≡◌, true, ◌+◌, ◌-◌, ◌*◌, ◌/◌, ◌^◌, ◌≤◌, ◌<◌, max, ltb, leb};
+ghost use Rattle.std.specs.Prelude.{◌≡◌, true, ◌+◌, ◌-◌, ◌*◌, ◌/◌, ◌^◌, ◌≤◌, ◌<◌, leb};
 
 // The longest image, in bytes: no offset lies past it.
 pub const LONGEST: u64 = 16_777_216;
@@ -38,25 +38,6 @@ impl Block {
         self.0
     }
 
-    pub fn is_before(self, other: Block) -> bool
-        ensures { result ≡ ltb self.0 other.0 }
-    {
-        self.0 < other.0
-    }
-
-    pub fn is_at_or_before(self, other: Block) -> bool
-        ensures { result ≡ leb self.0 other.0 }
-    {
-        self.0 <= other.0
-    }
-
-    // The later of the two.
-    pub fn later(self, other: Block) -> Block
-        ensures { result.0 ≡ max self.0 other.0 }
-    {
-        if self.0 < other.0 { other } else { self }
-    }
-
     // How many blocks it lies past `from`, 0 where it does not.
     pub fn blocks_past(self, from: Block) -> u64
         ensures { result ≡ self.0 - from.0 }
@@ -85,10 +66,7 @@ impl Block {
         ensures value { result ≡ leb (self.0 + blocks) end.0 }
         ensures held { result ≡ true → self.0 + blocks < 2 ^ 64 }
     {
-        if end.0 < self.0 {
-            return false;
-        }
-        blocks <= end.0 - self.0
+        end.0.checked_sub(self.0).is_some_and(|room| blocks <= room)
     }
 
     // How many blocks lie from here up to `end`.
@@ -113,18 +91,6 @@ impl Slot {
         ensures { result ≡ self.0 }
     {
         self.0
-    }
-
-    pub fn is_before(self, other: Slot) -> bool
-        ensures { result ≡ ltb self.0 other.0 }
-    {
-        self.0 < other.0
-    }
-
-    pub fn is_at_or_before(self, other: Slot) -> bool
-        ensures { result ≡ leb self.0 other.0 }
-    {
-        self.0 <= other.0
     }
 
     // How many slots lie from here up to `end`.
