@@ -1,9 +1,10 @@
 -- A reader of a name: what is left of it decides, from where the reader stands, as the whole does.
-use Rattle.std.specs.Prelude.{ℕ, ◌+◌, ◌≤◌, ◌<◌, ◌≡◌, refl, Bool, ◌&&◌, List, [], ◌∷◌, length, drop, ltb, Option, Some, None}
+use Rattle.std.specs.Prelude.{ℕ, zero, suc, ◌-◌, ◌+◌, ◌≤◌, ◌<◌, ◌≡◌, refl, Bool, ◌&&◌, List, [], ◌∷◌, length, drop, ltb, Option, Some, None}
 use Rattle.std.proofs.Math.Path.{sym, ap}
 use Rattle.std.proofs.Common.{ap₂, ◌∙◌}
 use Rattle.std.proofs.Math.Bool.{true, false, not}
 use native.Mathlib.Omega.{arith}
+use Rattle.std.proofs.Math.Decide.{dec_lt}
 use Rattle.std.proofs.Math.ListN.{get_or}
 use Rattle.std.proofs.Math.Dec.{eqb}
 use borrow.Author.Tests.{ne_eqb, not-true}
@@ -80,6 +81,17 @@ on-end : (path : List ℕ) (r : Reader) (part : ℕ) → Reached path [] r part 
 unfolding path_good
 on-end path r part h = ap₂ (λ a b. a && b) (from-nil _ _ _ ∙ h.1) (ap (λ q. eqb q 3) (run-nil part ∙ h.2) ∙ run-parts path)
 
+-- every byte of s from place a up to b is a plain character
+abbrev pub Plain : List ℕ → ℕ → ℕ → Type 0
+Plain s a b = (j : ℕ) → a ≤ j → j < b → (ascii_good (get_or s j 0) && turns_nothing (get_or s j 0)) ≡ true
+
+pub plain_more : (s : List ℕ) (a b : ℕ) → Plain s a b → (ascii_good (get_or s b 0) && turns_nothing (get_or s b 0)) ≡ true → Plain s a (b + 1)
+plain_more s a b h e j k l = by (dec_lt j b)
+  where
+    by : Dec (j < b) → (ascii_good (get_or s j 0) && turns_nothing (get_or s j 0)) ≡ true
+    by (yes m) = h j k m
+    by (no m) = let f : j ≡ b = omega arith in rw f e
+
 -- ---- the loop over a path, at byte i of s
 abbrev pub PathAt : List ℕ → Reader → ℕ → ℕ → Type 0
 PathAt s r part i = (i ≤ length s) × (i + length (up_to_zero (drop i s)) ≡ length (up_to_zero s)) × Reached (up_to_zero s) (up_to_zero (drop i s)) r part
@@ -103,6 +115,16 @@ module _ (s : List ℕ) (r : Reader) (part i : ℕ) (h : PathAt s r part i) wher
 
   pub path-ended : up_to_zero (drop i s) ≡ [] → (e : Option ℕ) → e ≡ pick (eqb r.due 0 && eqb part 3) (Some i) None → In path_good s e
   path-ended z e f = ended-in path_good s i _ z h.1 (on-end (up_to_zero s) r part (rw (← z) h.2)) e f
+
+-- any number of plain bytes, the last of them before place n
+module _ (s : List ℕ) (r : Reader) (z : r.due ≡ 0) (n : ℕ) (m : n ≤ length s) where
+  run : (k i : ℕ) → i + k ≡ n → Plain s i n → PathAt s r 3 i → PathAt s r 3 n
+  run zero i e p h = let f : i ≡ n = omega arith in rw (← f) h
+  run (suc k) i e p h =
+      run k (i + 1) (omega arith) (λ j a b. p j (omega arith) b) (plain_turn s r 3 i h (omega arith) z (p i (omega arith) (omega arith)))
+
+  pub plain-run : (i : ℕ) → i ≤ n → Plain s i n → PathAt s r 3 i → PathAt s r 3 n
+  plain-run i l p h = run (n - i) i (omega arith) p h
 
 -- ---- the loop over a volume name, at byte i of s
 abbrev pub NameAt : List ℕ → Reader → ℕ → Type 0
