@@ -84,6 +84,7 @@ fn open_volume(img: &[u8], out: &mut [u8]) -> Result<Volume, Refusal>
 pub fn open(img: &[u8], out: &mut [u8]) -> Volume
     ensures { OpensVolume img.now out.old result out.new }
 {
+    // Kept: a match. By unwrap_or_else the clause of the function that it calls is out of the proof's reach.
     match open_volume(img, out) {
         Ok(volume) => volume,
         Err(e) => no_volume(e),
@@ -150,6 +151,7 @@ fn find_entry(img: &[u8], path: &[u8]) -> Result<Entry, Refusal>
 pub fn find(img: &[u8], path: &[u8]) -> Entry
     ensures { Finds img.now path.now result }
 {
+    // Kept: a match. By unwrap_or_else the clause of the function that it calls is out of the proof's reach.
     match find_entry(img, path) {
         Ok(entry) => entry,
         Err(e) => no_entry(e),
@@ -198,6 +200,7 @@ fn read_entry(img: &[u8], path: &[u8], out: &mut [u8]) -> Result<Content, Refusa
 pub fn read(img: &[u8], path: &[u8], out: &mut [u8]) -> Content
     ensures { Reads img.now path.now out.old result out.new }
 {
+    // Kept: a match. By unwrap_or_else the clause of the function that it calls is out of the proof's reach.
     match read_entry(img, path, out) {
         Ok(content) => content,
         Err(e) => no_content(e),
@@ -257,6 +260,7 @@ fn list_from(img: &[u8], slot: Slot, out: &mut [u8]) -> Result<Listed, Refusal>
 pub fn list(img: &[u8], slot: u64, out: &mut [u8]) -> Listed
     ensures { Lists img.now slot out.old result out.new }
 {
+    // Kept: a match. By unwrap_or_else the clause of the function that it calls is out of the proof's reach.
     match list_from(img, Slot::at(slot), out) {
         Ok(listed) => listed,
         Err(e) => none_listed(e),

@@ -180,6 +180,7 @@ fn list_all_from(img: &[u8], slot: Slot, out: &mut [u8]) -> Result<Records, Refu
 pub fn list_all(img: &[u8], slot: u64, out: &mut [u8]) -> Records
     ensures { ListsAll img.now slot out.old result out.new }
 {
+    // Kept: a match. By unwrap_or_else the clause of the function that it calls is out of the proof's reach.
     match list_all_from(img, Slot::at(slot), out) {
         Ok(records) => records,
         Err(e) => no_records(e),
