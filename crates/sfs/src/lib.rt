@@ -7,6 +7,7 @@ ghost use Rattle.contracts.specs.Promises.{TellsApi, Formats, OpensVolume, Finds
 
 use contracts::{Content, Entry, Listed, Records, Volume};
 use placing::{Made, New};
+use refusals::Refusal;
 
 // The number of the interface, raised whenever a struct, an argument or what a call does changes.
 const API: u32 = 2;
@@ -119,8 +120,8 @@ fn too_short() -> Content
     ensures { (result.refusal ≡ 18) × (result.length ≡ 0) }
 {
     Content {
-        refusal: 18,
-        length: 0,
+        refusal: u32::from(Refusal::TooShort),
+        ..Content::default()
     }
 }
 
@@ -128,8 +129,8 @@ fn written(n: usize) -> Content
     ensures { (result.refusal ≡ 0) × (result.length ≡ n) }
 {
     Content {
-        refusal: 0,
         length: n as u64,
+        ..Content::default()
     }
 }
 
@@ -155,10 +156,7 @@ pub fn sfs_report_add(image: &[u8], report: &mut [u64]) -> u32
 pub fn sfs_report_text(report: &[u64], out: &mut [u8]) -> Content
     ensures { WritesReport report.now out.old result out.new }
 {
-    if report.len() < report::NUMBERS {
-        return too_short();
-    }
-    if out.len() < report::ROOM {
+    if report.len() < report::NUMBERS || out.len() < report::ROOM {
         return too_short();
     }
     let n = report::put_numbers(report, out);

@@ -17,6 +17,7 @@ pub fn delete_undone(image: &mut [u8], path: &[u8], stamp: i64) -> u32
 {
     let found = sfs::sfs_find(image, path);
     let refusal = sfs::sfs_delete_keep(image, path, stamp);
+    // Kept: a refusal as its number, since sfs_delete_keep answers it so.
     if refusal != 0 {
         return refusal;
     }
@@ -28,6 +29,7 @@ pub fn restored_too_late(image: &mut [u8], path: &[u8], reclaimed: i64, restored
     ensures { TooLate image.old path.now reclaimed result image.new }
 {
     let refusal = sfs::sfs_reclaim(image, reclaimed);
+    // Kept: a refusal as its number, since sfs_reclaim answers it so.
     if refusal != 0 {
         return refusal;
     }

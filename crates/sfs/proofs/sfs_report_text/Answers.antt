@@ -1,3 +1,4 @@
+use Rattle.std.proofs.Common.{inl, inr}
 use mathlib.Core.Path.{sym, ap, ◌∙◌}
 use native.Mathlib.Nat.{zero-add}
 use lib.ListN.{length}
@@ -9,12 +10,8 @@ use Rattle.sfs.proofs.sfs_report_text.Goals as goal
 pub returns-then-report-lt-NUMBERS : goal.returns-then-report-lt-NUMBERS
 returns-then-report-lt-NUMBERS c =
     let e = c.too_short.ensures in
-    content-denied _ _ _ 18 e.0 e.1 ∙ sym (report-few _ _ c.if-report-lt-NUMBERS.true)
-
-pub returns-then-out-lt-ROOM : goal.returns-then-out-lt-ROOM
-returns-then-out-lt-ROOM c =
-    let e = c.too_short-then-out-lt-ROOM.ensures in
-    content-denied _ _ _ 18 e.0 e.1 ∙ sym (report-short _ _ c.if-out-lt-ROOM.true)
+    content-denied _ _ _ 18 e.0 e.1
+    ∙ elim c.then-report-lt-NUMBERS.either [ inl h ↦ sym (report-few _ _ h) | inr h ↦ sym (report-short _ _ h.1) ]
 
 pub returns : goal.returns
 returns c =
@@ -23,12 +20,6 @@ returns c =
     let w = c.put_numbers-n.ensures in
     content-outcome ns _ _ (length (report_text (report_in ns))) e.0 (e.1 ∙ w.1 ∙ zero-add _)
     ∙ ap (done (length (report_text (report_in ns))) ns) w.0 ∙ sym (report-done _ _ c.if-report-lt-NUMBERS.false c.if-out-lt-ROOM.false)
-
-pub too_short-requires : goal.too_short-requires
-too_short-requires c = tt
-
-pub too_short-requires-then-out-lt-ROOM : goal.too_short-requires-then-out-lt-ROOM
-too_short-requires-then-out-lt-ROOM c = tt
 
 pub written-requires : goal.written-requires
 written-requires c = tt
