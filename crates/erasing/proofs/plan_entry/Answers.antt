@@ -83,8 +83,8 @@ returns-in_err-h c =
     let told : c.in_err-h.field-0.0 ≡ Absent = grind arith in
     let p = err_from_is_err_and c.from_residual.result c.from_residual.ensures.1 in
     rw (p.1, p.2, told) (λ z.
-      deletable-none _ _ c.requires (current (goal.at.returns-in_err-h c).Else-not-is_writable) _ z (good (goal.at.returns-in_err-h c).Else-not-path_good)
-      (ap (lookup _) (sym (entries-are (goal.at.returns-in_err-h c).After-first_slot-from)) ∙ searched-nothing _ _ _ c.lookup.ensures gone))
+    deletable-none _ _ c.requires (current (goal.at.returns-in_err-h c).Else-not-is_writable) _ z (good (goal.at.returns-in_err-h c).Else-not-path_good)
+    (ap (lookup _) (sym (entries-are (goal.at.returns-in_err-h c).After-first_slot-from)) ∙ searched-nothing _ _ _ c.lookup.ensures gone))
 
 pub returns : goal.returns
 unfolding DeletePlanned lookup head_view

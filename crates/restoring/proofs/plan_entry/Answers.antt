@@ -66,6 +66,6 @@ returns-in_err-h c =
     let told : c.in_err-h.field-0.0 ≡ Absent = grind arith in
     let p = err_from_is_err_and c.from_residual.result c.from_residual.ensures.1 in
     rw (p.1, p.2, told) (λ z.
-      restore-none _ _ c.requires (current (goal.at.returns-in_err-h c).Else-not-is_writable) _ z (good (goal.at.returns-in_err-h c).Else-not-path_good)
-      (ap (first _) (sym (opened-entries _ _ c.requires c.first_slot-from.result c.first_slot-from.ensures.0))
-      ∙ hit-nothing _ _ _ _ c.first_deleted.ensures.hits gone))
+    restore-none _ _ c.requires (current (goal.at.returns-in_err-h c).Else-not-is_writable) _ z (good (goal.at.returns-in_err-h c).Else-not-path_good)
+    (ap (first _) (sym (opened-entries _ _ c.requires c.first_slot-from.result c.first_slot-from.ensures.0))
+    ∙ hit-nothing _ _ _ _ c.first_deleted.ensures.hits gone))
