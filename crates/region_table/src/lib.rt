@@ -33,7 +33,7 @@ pub struct Region {
 
 // 0 for yes, no two regions share a block, and 7 for no; 18 where the table has too few places; or what the image is refused with before its regions are
 // compared. And how many regions now stand in the table.
-// Kept: the C interface needs the number and no Result (exports regions_in_table, regions_apart, regions_apart_plainly of region_table_c).
+// Kept: the C interface needs the number and no Result (export regions_in_table of region_table_c; regions_apart and regions_apart_plainly answer it alone).
 #[repr(C)]
 #[derive(Clone, Copy)]
 pub struct TableAnswer {
