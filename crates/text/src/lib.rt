@@ -25,7 +25,7 @@ pub fn put_bytes(out: &mut [u8], at: usize, src: &[u8]) -> usize
     ensures { Wrote out.old at src.now out.new result }
 {
     let end = at + src.len();
-    out[at..end].copy_from_slice(src);
+    copying::copy_into(&mut out[at..end], src);
     end
 }
 
