@@ -2,7 +2,7 @@
 
 #![tactic(auto)]
 
-ghost use Rattle.std.specs.Prelude.{◌≡◌, ◌+◌, ◌^◌, ◌≤◌, ◌<◌, eqb, leb, is_some, IfSome};
+ghost use Rattle.std.specs.Prelude.{◌≡◌, ◌+◌, ◌^◌, ◌≤◌, ◌<◌, eqb, leb, is_some, IfSome, IsNone};
 ghost use Rattle.rules.specs.Lists.{pick};
 ghost use Rattle.rules.specs.Editions.{version_of, version_named, edition_named, super_block_at, version_read, version_written, sum_length, sum_good, past_end, stored_end, keeps_deleted, before_directories};
 ghost use Rattle.editions.specs.View.{edition_view};
@@ -21,6 +21,7 @@ impl Edition {
     pub fn named(version: u64) -> Option<Edition>
         ensures found { is_some result ≡ version_named version }
         ensures edition { IfSome result (λ ed. edition_view ed ≡ edition_named version) }
+        ensures otherwise { IsNone result → edition_view Edition.First ≡ edition_named version }
     {
         match version {
             0x10 => Some(Edition::First),
@@ -133,6 +134,13 @@ impl Edition {
     {
         matches!(self, Edition::Second)
     }
+}
+
+// The edition of any version: 1.0 where it names none.
+pub fn named(version: u64) -> Edition
+    ensures { edition_view result ≡ edition_named version }
+{
+    Edition::named(version).unwrap_or(Edition::First)
 }
 
 // The block behind the last one of a region; an empty file has none, and 0 is stored.

@@ -1,12 +1,12 @@
-// Stamps: signed numbers of 64 bits and their bits, and the date of any stamp.
+// Stamps: signed numbers of 64 bits and their bits, rounded-down division, and the date of any stamp.
 
 #![tactic(auto)]
 
-ghost use Rattle.std.specs.Prelude.{◌≡◌, pos, ◌+ℤ◌, ◌*ℤ◌};
+ghost use Rattle.std.specs.Prelude.{◌≡◌, pos, nat_abs, ◌+ℤ◌, ◌*ℤ◌, ◌<ℤ◌};
 ghost use Prim.Native.Nat.{◌+◌, ◌-◌, ◌<◌, ◌^◌};
 ghost use Rattle.std.specs.Int.Signed.{mag};
 ghost use Rattle.rules.specs.Fields.{signed_of, bits_of};
-ghost use Rattle.rules.specs.Dates.{date_of, moment_of};
+ghost use Rattle.rules.specs.Dates.{floor_div, floor_mod, date_of, moment_of};
 ghost use Rattle.rules.specs.Dates.Quick.{year_of, day_of, month_of, month_start, calendar_month, carry, date_at};
 ghost use Rattle.rules.specs.Dates.Range.{InRange};
 ghost use Rattle.stamps.specs.View.{date_view, moment_view};
@@ -23,6 +23,27 @@ pub fn to_bits(z: i64) -> u64
     ensures { result ≡ bits_of z }
 {
     z.cast_unsigned()
+}
+
+// The quotient of `a` by `b`, rounded down.
+pub fn floor_div(a: i64, b: i64) -> i64
+    requires { pos 0 <ℤ b }
+    ensures { result ≡ floor_div a (nat_abs b) }
+{
+    a.div_euclid(b)
+}
+
+// What is left of `a` after that quotient: from 0 up to `b`.
+// Kept: by the sign of `a`. `rem_euclid` takes no divisor from 2^63 on, and `!a`, which is -1 - a, needs no room.
+pub fn floor_mod(a: i64, b: u64) -> u64
+    requires { 0 < b }
+    ensures { result ≡ floor_mod a b }
+{
+    if a < 0 {
+        b - 1 - (!a) as u64 % b
+    } else {
+        a as u64 % b
+    }
 }
 
 #[derive(Clone, Copy)]
@@ -107,7 +128,7 @@ fn date_of(days: i64) -> Date
     ensures { date_view result ≡ date_of days }
 {
     let z = days + 719468;
-    date_at(z.div_euclid(146097), z.rem_euclid(146097) as u64)
+    date_at(floor_div(z, 146097), floor_mod(z, 146097))
 }
 
 #[derive(Clone, Copy)]
@@ -122,9 +143,9 @@ pub struct Moment {
 pub fn moment_of(stamp: i64) -> Moment
     ensures { (moment_view result ≡ moment_of stamp) × InRange (moment_view result) }
 {
-    let seconds = stamp.div_euclid(65536);
-    let date = date_of(seconds.div_euclid(86400));
-    let s = seconds.rem_euclid(86400) as u64;
+    let seconds = floor_div(stamp, 65536);
+    let date = date_of(floor_div(seconds, 86400));
+    let s = floor_mod(seconds, 86400);
     Moment {
         date,
         hour: s / 3600,

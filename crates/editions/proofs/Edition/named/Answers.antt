@@ -24,3 +24,7 @@ returns-in-26-clause-edition c = rw c.in-26.is
 pub returns-in_default-clause-found : goal.returns-in_default-clause-found
 unfolding version_named version_of by_edition
 returns-in_default-clause-found c = rw (ne_eqb c.args.version 16 (λ e. omega arith), ne_eqb c.args.version 26 (λ e. omega arith))
+
+pub returns-in_default-clause-otherwise : goal.returns-in_default-clause-otherwise
+unfolding edition_view edition_named version_of by_edition pick
+returns-in_default-clause-otherwise c = λ none. rw (ne_eqb c.args.version 26 (λ e. omega arith))
