@@ -1,8 +1,9 @@
 -- A report as 27 numbers: its table and counts in them, and what is put back.
 use Rattle.std.specs.Prelude.{◌≡◌, ℕ, zero, suc, ◌+◌, ◌*◌, ◌^◌, ◌<◌, ◌≤◌, List, [], ◌∷◌, ◌++◌, map, length, take, drop, slice_index, slice_index_or, refl}
 use Rattle.std.proofs.Math.Path.{sym, ap, ap₂}
-use Rattle.std.proofs.Common.{◌∙◌, append-nil, append_assoc, add-one, arith, drop-drop, get_or-drop, length-drop, take_at, length-take-le, le-leb}
+use Rattle.std.proofs.Common.{◌∙◌, append-nil, append_assoc, add-one, arith, drop-cons, drop-drop, get_or-drop, length-drop, take_at, length-take-le, le-leb}
 use Rattle.std.proofs.Math.ListN.{length-append}
+use Rattle.std.proofs.Math.Seq.{drop-append_seam}
 use Rattle.std.proofs.lemmas.List.{take-take, drop-take}
 use Rattle.std.specs.Simd.{first_chunks}
 use Rattle.std.proofs.lemmas.Bool.{lt-leb}
@@ -19,6 +20,29 @@ use Rattle.report.specs.Stored.{StoredRow, Stored, HeldTable, all-fits, stored_r
 use Rattle.report.specs.View.{as_report, counted_view}
 
 -- ---- read
+pub part-three : (s : List ℕ) (k : ℕ) → k + 3 ≤ length s → slice_index s k ∷ slice_index s (k + 1) ∷ slice_index s (k + 2) ∷ [] ≡ part s k 3
+unfolding part
+part-three s k h =
+    let a : k + 1 ≡ suc k = omega arith in
+    let b : k + 2 ≡ suc (suc k) = omega arith in
+    rw (a, b, drop-cons s k 0 (omega arith), drop-cons s (suc k) 0 (omega arith), drop-cons s (suc (suc k)) 0 (omega arith))
+
+pub part-nine : (s : List ℕ) → 27 ≤ length s
+    → slice_index s 18 ∷ slice_index s 19 ∷ slice_index s 20 ∷ slice_index s 21 ∷ slice_index s 22 ∷ slice_index s 23 ∷ slice_index s 24 ∷ slice_index s 25 ∷ slice_index s 26 ∷ [] ≡ part s 18 9
+unfolding part
+part-nine s h =
+    rw (
+      drop-cons s 18 0 (omega arith),
+      drop-cons s 19 0 (omega arith),
+      drop-cons s 20 0 (omega arith),
+      drop-cons s 21 0 (omega arith),
+      drop-cons s 22 0 (omega arith),
+      drop-cons s 23 0 (omega arith),
+      drop-cons s 24 0 (omega arith),
+      drop-cons s 25 0 (omega arith),
+      drop-cons s 26 0 (omega arith),
+    )
+
 take-chunks : (k : ℕ) (s : List ℕ) → first_chunks 3 k (take (3 * k) s) ≡ first_chunks 3 k s
 take-chunks zero s = refl
 take-chunks (suc k) s =
@@ -81,6 +105,19 @@ joined-long t p =
       (stored_row t p 5 (omega arith)).long,
     ))
 
+-- what was put behind, and then in front of it
+put_both : (s xs ys : List ℕ) → length xs + length ys ≤ length s → splice (splice s (length xs) ys) 0 xs ≡ splice s 0 (xs ++ ys)
+unfolding splice
+put_both s xs ys h =
+    let l : length (take (length xs) s) ≡ length xs = length-take-le (length xs) s (omega arith) in
+    let n : 0 + length xs ≡ length (take (length xs) s) = omega (arith, l) in
+    let m : length xs + length ys ≡ 0 + length (xs ++ ys) = omega (arith, length-append xs ys) in
+    ap (λ (t : List ℕ). xs ++ t)
+    (ap (λ (k : ℕ). drop k (take (length xs) s ++ (ys ++ drop (length xs + length ys) s))) n
+    ∙ drop-append_seam (take (length xs) s) (ys ++ drop (length xs + length ys) s))
+    ∙ sym (append_assoc xs ys (drop (length xs + length ys) s))
+    ∙ ap (λ (k : ℕ). (xs ++ ys) ++ drop k s) m
+
 -- ---- the call
 module _ (s ns : List ℕ) where
   pub image-short : length ns < 27 → counted_view 18 ns ≡ count_image s ns
@@ -90,6 +127,15 @@ module _ (s ns : List ℕ) where
   pub image-counted : 27 ≤ length ns → (r : ℕ) → r ≡ verdict_number (judge_read s) → (after : List ℕ) → after ≡ splice ns 0 (report_numbers (with_image s (report_in ns))) → counted_view r after ≡ count_image s ns
   unfolding count_image
   image-counted long r e after f = ap₂ counted_view e f ∙ sym (pick_true _ _ (le-leb 27 (length ns) long))
+
+  -- the same, where the counts are put and then the table
+  pub image-counted-parts : 27 ≤ length ns → (t : Table) (cs : List ℕ) → as_report t cs ≡ with_image s (report_in ns) → Stored t → length cs ≡ 9
+      → (r : ℕ) → r ≡ verdict_number (judge_read s) → (after : List ℕ) → after ≡ splice (splice ns 18 cs) 0 (joined t) → counted_view r after ≡ count_image s ns
+  unfolding report_numbers
+  image-counted-parts long t cs same stored nine r e after f =
+      let n : length (joined t) ≡ 18 = joined-long t stored in
+      image-counted long r e after
+      (f ∙ ap (λ (k : ℕ). splice (splice ns k cs) 0 (joined t)) (sym n) ∙ put_both ns (joined t) cs (omega arith) ∙ ap (λ (x : Report). splice ns 0 (report_numbers x)) same)
 
 -- ---- ONE IMAGE AFTER THE OTHER: numbers that begin as zeros hold, after any list of images, the report on them
 -- what was put into the numbers is read from them again

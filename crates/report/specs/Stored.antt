@@ -1,6 +1,13 @@
 -- A table as it is stored: six rows of three numbers of 64 bits. Counting keeps it so, and such a table with nothing added is itself.
 use Rattle.std.specs.Prelude.{◌≡◌, ℕ, zero, suc, ◌+◌, ◌%◌, ◌^◌, ◌<◌, List, [], ◌∷◌, length, replicate, slice_index, slice_index_or, slice_set, refl}
 use Rattle.std.proofs.Common.{ap, ap₂, ◌∙◌, add-zero, mod-lt, mod-eq_of_lt, arith, length-set}
+use Rattle.std.specs.Int.{w64}
+use mir.Val.{Val}
+use denote.Laws.{Is}
+use denote.Plain.{UInt}
+use denote.Shadow.{shadow}
+use denote.Array.{Array, each, in_array}
+use borrow.Author.Rules.{elem_Fits}
 use Rattle.rules.specs.Lists.{both, only, sum, All}
 use Rattle.rules.specs.Report.{Table, sums_of, sums_of_kind, plus64, added}
 use Rattle.laws.proofs.Lists.Every.{all-weaken}
@@ -38,6 +45,19 @@ held-stored t h = record {
   long = h.0;
   rows = rows-all t (λ k l. let p = h.1 k (omega (arith, h.0)) in record { long = p.0; fits = all-fits (slice_index_or t k []) p.1 });
 }
+
+-- ---- of an array
+pub row-held : (r : List ℕ) (vs : List Val) → Is (Array (UInt w64) 3) r vs → StoredRow r
+row-held r vs p = record { long = p.1.0.1; fits = all-fits r (λ i. (elem_Fits w64 w64 r p.0 i p.1.1 tt).fits) }
+
+rows-held : (t : Table) (us : List Val) → shadow (each (List ℕ) (in_array ℕ (UInt w64).own_val 3) t us) → All StoredRow t
+rows-held [] [] p = tt
+rows-held [] (u ∷ us) p = absurd p
+rows-held (r ∷ t) [] p = absurd p
+rows-held (r ∷ t) (u ∷ us) p = (row-held r (u ∷ []) p.0, rows-held t us p.1)
+
+pub table-held : (t : Table) (vs : List Val) → Is (Array (Array (UInt w64) 3) 6) t vs → Stored t
+table-held t vs p = record { long = p.1.0.1; rows = rows-held t p.0 p.1.1 }
 
 -- ---- counting keeps it
 plus-fits : (r q : List ℕ) → All (λ n. n < 2 ^ 64) (both plus64 r q)

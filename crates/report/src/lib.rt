@@ -18,13 +18,12 @@ ghost use Rattle.index.specs.Steps.{Walks, entries_from};
 ghost use Rattle.judging.specs.View.{Opened, judged_view, volume_of};
 ghost use Rattle.text.specs.Wrote.{Wrote};
 ghost use Rattle.report.specs.Items.{Onto};
-ghost use Rattle.report.specs.View.{kind_place, report_view, counted_view, kind_text, upper_text, lower_text, pair_text};
+ghost use Rattle.report.specs.View.{kind_place, as_report, report_view, counted_view, kind_text, upper_text, lower_text, pair_text};
 
 mod held;
 
 use geometry::Geometry;
-use held::COUNTS;
-pub use held::Report;
+pub use held::{COUNTS, Report};
 use index::Cursor;
 use refusals::Refusal;
 use slots::Head;
@@ -84,6 +83,15 @@ fn row_with(row: [u64; 3], slots: u64, blocks: u64, bytes: u64) -> [u64; 3]
 
 // ---- counting
 
+// One more at a place of any counts.
+pub fn count_one(counts: &mut [u64], place: u8)
+    requires { place < length counts.old }
+    ensures { counts.new ≡ one_more place counts.old }
+{
+    let i = place as usize;
+    counts[i] = counts[i].wrapping_add(1);
+}
+
 impl Report {
     // Before the first image.
     pub fn new() -> Report
@@ -93,6 +101,13 @@ impl Report {
             table: [[0; 3]; 6],
             counts: [0; COUNTS],
         }
+    }
+
+    // Of any sums and counts.
+    pub fn with(table: [[u64; 3]; 6], counts: [u64; COUNTS]) -> Report
+        ensures { report_view result ≡ as_report table counts }
+    {
+        Report { table, counts }
     }
 
     fn count(&mut self, kind: Kind, slots: u64, blocks: u64, bytes: u64)
@@ -279,15 +294,32 @@ impl Report {
 
 impl Report {
     // A report's numbers.
-    fn of(numbers: &[u64]) -> Report
+    // Kept: written out. An array that is filled and then moved would make the library for C need memcpy from outside.
+    pub fn of(numbers: &[u64]) -> Report
         requires { 27 ≤ length numbers.now }
         ensures { report_view result ≡ report_in numbers.now }
     {
-        let mut table = [[0; 3]; 6];
-        table.copy_from_slice(numbers[..SUMS].as_chunks::<3>().0);
-        let mut counts = [0; COUNTS];
-        counts.copy_from_slice(&numbers[SUMS..NUMBERS]);
-        Report { table, counts }
+        Report {
+            table: [
+                [numbers[0], numbers[1], numbers[2]],
+                [numbers[3], numbers[4], numbers[5]],
+                [numbers[6], numbers[7], numbers[8]],
+                [numbers[9], numbers[10], numbers[11]],
+                [numbers[12], numbers[13], numbers[14]],
+                [numbers[15], numbers[16], numbers[17]],
+            ],
+            counts: [
+                numbers[18],
+                numbers[19],
+                numbers[20],
+                numbers[21],
+                numbers[22],
+                numbers[23],
+                numbers[24],
+                numbers[25],
+                numbers[26],
+            ],
+        }
     }
 
     fn store(&self, numbers: &mut [u64])

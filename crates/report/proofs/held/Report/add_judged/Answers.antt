@@ -1,4 +1,4 @@
-use Rattle.std.proofs.Common.{ap, ap₂, ◌∙◌}
+use Rattle.std.proofs.Common.{ap, ap₂, ◌∙◌, arith}
 use Rattle.rules.specs.Report.{one_more}
 use Rattle.judging.specs.View.{read-refused, read-good, read_opened}
 use Rattle.report.specs.Adding.{image-refused, image-opened, refused-low}
@@ -7,7 +7,7 @@ use Rattle.report.specs.View.{as_report}
 use Rattle.report.proofs.held.Report.add_judged.Goals as goal
 
 pub count_one-requires : goal.count_one-requires
-count_one-requires c = rw c.from.ensures (refused-low _ _ (read-refused _ _ c.requires _ c.in-Err.is))
+count_one-requires c = omega (arith, c.from.ensures, refused-low _ _ (read-refused _ _ c.requires _ c.in-Err.is))
 
 pub count_volume-requires : goal.count_volume-requires
 count_volume-requires c = read_opened _ _ c.requires _ c.in-Ok.is
