@@ -1,9 +1,8 @@
 -- The report: a line counts as one source, and the whole is the report on some list of at most 1,000.
 use Rattle.std.specs.Prelude.{ℕ, ◌+◌, ◌≤◌, ◌≡◌, refl, true, false, List, [], ◌∷◌, ◌++◌, length, IsSome, IsNone}
 use Rattle.std.proofs.Common.{sym, ap, ◌∙◌, arith, length-append}
-use Rattle.rules.specs.Lists.{only, sum}
 use Rattle.rules.specs.Lists.Laws.{clash}
-use Rattle.rules.specs.Report.{Table, sums_of, sums_of_kind, Source, unread, image, Report, one_more, with_image, with_source, report_from, name_of_file}
+use Rattle.rules.specs.Report.{Source, unread, image, Report, with_image, with_source, report_from, name_of_file}
 use Rattle.lines.specs.declared.Fed.{Fed}
 use Rattle.lines.specs.Feeding.{GoneOn}
 

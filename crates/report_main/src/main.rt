@@ -3,7 +3,7 @@
 #![tactic(auto)]
 
 ghost use Rattle.std.specs.Prelude.{◌≡◌, true, ℕ, ◌≤◌, length, IfSome, IsSome};
-ghost use Rattle.rules.specs.Report.{Report, name_of_file};
+ghost use Rattle.rules.specs.Report.{Report, no_report, name_of_file};
 ghost use Rattle.lines.specs.Feeding.{GoneOn};
 ghost use Rattle.report.specs.View.{report_view};
 ghost use Rattle.report_main.specs.Files.{CountedFile, Counting, CountedAll};
@@ -103,20 +103,28 @@ fn count_named<I: Read, R: Files>(
     }
 }
 
+// The report on all images that are named, from none on.
+fn report_of<I: Read, R: Files>(
+    input: &mut I,
+    files: &R,
+    piece: &mut [u8],
+    line: &mut [u8],
+    img: &mut [u8],
+) -> Held
+    requires { 256 ≡ length line.old }
+    ensures { CountedAll no_report (report_view result) }
+{
+    let mut report = Held::new();
+    count_named(input, files, piece, line, img, &mut report);
+    report
+}
+
 fn main(rt: HostRuntime) {
     let mut piece = [0u8; PIECE];
     let mut line = [0u8; lines::KEPT];
     // One byte more than is taken, so that a longer file is seen.
     let mut img = [0u8; judging::LONGEST + 1];
-    let mut report = Held::new();
-    count_named(
-        &mut rt.stdin(),
-        &rt,
-        &mut piece,
-        &mut line,
-        &mut img,
-        &mut report,
-    );
+    let report = report_of(&mut rt.stdin(), &rt, &mut piece, &mut line, &mut img);
     let mut out = [0u8; report::ROOM];
     let end = report.put_text(&mut out);
     // A report that cannot be written is not told of.
